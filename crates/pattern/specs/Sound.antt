@@ -1,0 +1,107 @@
+-- When a pattern value is sound (document 01, 'Pattern text'): every count, range and index is one that a text can
+-- have, and what a text does not say is zeros. That it is sound exactly if some text reads as it is a theorem of the
+-- crate pattern_text.
+use Prim.Native.Nat.{ℕ}
+use mathlib.Core.Bool.{Bool, true, false, not, _&&_}
+use lib.Dec.{eqb, leb, ltb}
+use lib.ListN.{replicate}
+use lib.IntN.{ℤ, pos, negsuc, natAbs}
+use Rattle.pattern.specs.declared.Sign.{Sign}
+use Rattle.pattern.specs.declared.Sign.the-variants.{Less, AtMost, More, AtLeast}
+use Rattle.pattern.specs.declared.Kind.{Kind}
+use Rattle.pattern.specs.declared.Kind.the-variants.{Start, Plain, End, Both}
+use Rattle.pattern.specs.declared.Test.{Test}
+use Rattle.pattern.specs.declared.Guard.{Guard}
+use Rattle.pattern.specs.declared.Place.{Place}
+use Rattle.pattern.specs.declared.Edge.{Edge}
+use Rattle.pattern.specs.declared.Pattern.{Pattern}
+use Rattle.pattern.specs.Slots.{anything, within, slots}
+
+-- ---- "Its unused slots are zeros, with sign `<` and kind plain."
+
+abbrev pub noTest : Test
+noTest = record { sign = Less; channel = 0; bound = pos 0 }
+
+abbrev pub noPlace : Place
+noPlace = record { kind = Plain; tests = replicate 4 noTest; count = 0 }
+
+abbrev pub noGuard : Guard
+noGuard = record { sign = Less; clock = 0; bound = 0 }
+
+abbrev pub noEdge : Edge
+noEdge = record { from = 0; to = 0; guards = replicate 4 noGuard; count = 0; resets = replicate 4 false }
+
+abbrev pub isLess : Sign → Bool
+isLess Less = true
+isLess AtMost = false
+isLess More = false
+isLess AtLeast = false
+
+abbrev pub isPlain : Kind → Bool
+isPlain Start = false
+isPlain Plain = true
+isPlain End = false
+isPlain Both = false
+
+abbrev pub isNull : ℤ → Bool
+isNull (pos n) = eqb n 0
+isNull (negsuc n) = false
+
+unfoldable pub testUnused : Test → Bool
+testUnused t = isLess (t .sign) && eqb (t .channel) 0 && isNull (t .bound)
+
+unfoldable pub guardUnused : Guard → Bool
+guardUnused g = isLess (g .sign) && eqb (g .clock) 0 && eqb (g .bound) 0
+
+unfoldable pub placeUnused : Place → Bool
+placeUnused l = isPlain (l .kind) && eqb (l .count) 0 && slots testUnused testUnused 4 0 (l .tests)
+
+unfoldable pub edgeUnused : Edge → Bool
+edgeUnused e =
+    eqb (e .from) 0 && eqb (e .to) 0 && eqb (e .count) 0 && slots guardUnused guardUnused 4 0 (e .guards)
+    && slots not not 4 0 (e .resets)
+
+-- ---- ranges, and indices that the pattern has
+
+-- "a bound from -1,000,000 to 1,000,000"
+unfoldable pub testInRange : Test → Bool
+testInRange t = leb (natAbs (t .bound)) 1_000_000
+
+-- Channels count from 0.
+unfoldable pub testKnown : (channels : ℕ) → Test → Bool
+testKnown channels t = ltb (t .channel) channels
+
+-- "a bound 0 to 1,000"
+unfoldable pub guardInRange : Guard → Bool
+guardInRange g = leb (g .bound) 1_000
+
+-- Clocks count from 0.
+unfoldable pub guardKnown : (clocks : ℕ) → Guard → Bool
+guardKnown clocks g = ltb (g .clock) clocks
+
+-- "channels 1 to 8; clocks 0 to 4; the window's low, 1 to 4,095; its high, low to 4,095"
+unfoldable pub headerInRange : (channels clocks low high : ℕ) → Bool
+headerInRange channels clocks low high =
+    within 1 8 channels && leb clocks 4 && within 1 4_095 low && within low 4_095 high
+
+-- ---- the pattern
+
+-- "with 0 to 4 tests"
+unfoldable pub placeSound : (channels : ℕ) → Place → Bool
+placeSound channels l = slots (λ t. testInRange t && testKnown channels t) testUnused 4 (l .count) (l .tests)
+
+-- "from, to, 0 to 4 guards, then resets": both ends among the places, and a reset flag only for a clock of the pattern.
+-- The flags stand in the clocks' order, so resets that rise need no rule of their own.
+unfoldable pub edgeSound : (clocks places : ℕ) → Edge → Bool
+edgeSound clocks places e =
+    ltb (e .from) places && ltb (e .to) places
+    && slots (λ g. guardInRange g && guardKnown clocks g) guardUnused 4 (e .count) (e .guards)
+    && slots anything not 4 clocks (e .resets)
+
+-- "Then 1 to 16 places", "Then 0 to 32 edges"
+unfoldable pub soundOf : Pattern → Bool
+soundOf p =
+    headerInRange (p .channels) (p .clocks) (p .low) (p .high)
+    && leb 1 (p .placecount)
+    && slots (placeSound (p .channels)) placeUnused 16 (p .placecount) (p .places)
+    && slots (edgeSound (p .clocks) (p .placecount)) edgeUnused 32 (p .edgecount) (p .edges)
