@@ -1,3 +1,6 @@
 pub mod Slots
 pub mod Sound
+pub mod InUse
+pub mod Clocks
+pub mod Cells
 pub mod Refusal

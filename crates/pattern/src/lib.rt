@@ -1,5 +1,10 @@
 // A pattern by value, as document 01 names its parts. Counts say how many slots of an array are in use.
+mod slots;
+
 use weighting::Weighing;
+ghost use mathlib.Core.Path.{_≡_};
+ghost use Rattle.pattern.specs.Slots.{slots};
+ghost use Rattle.pattern.specs.Sound.{placeSound, placeUnused, edgeSound, edgeUnused, headerInRange, soundOf};
 
 // The four signs of tests and guards: `<`, `<=`, `>`, `>=`.
 pub enum Sign {
@@ -74,4 +79,71 @@ pub enum Refusal {
     BrokenState,
     TooManyTicks,
     BrokenCell,
+}
+
+// The answer to a count of cells.
+pub enum Counted {
+    Cells(u64),
+    Refused(Refusal),
+}
+
+// "channels 1 to 8; clocks 0 to 4; the window's low, 1 to 4,095; its high, low to 4,095"
+fn header_sound(channels: u8, clocks: u8, low: u16, high: u16) -> bool
+    ensures { λ r. ⌜ r ≡ headerInRange channels clocks low high ⌝ }
+{
+    ((1 <= channels) & (channels <= 8))
+        & (clocks <= 4)
+        & ((1 <= low) & (low <= 4095))
+        & ((low <= high) & (high <= 4095))
+}
+
+fn places_sound(p: Pattern) -> bool
+    ensures { λ r. ⌜ r ≡ slots (placeSound (p .channels)) placeUnused 16 (p .placecount) (p .places) ⌝ }
+{
+    let n = p.placecount as usize;
+    let channels = p.channels;
+    let mut ok = n <= 16;
+    let mut i: usize = 0;
+    while i < 16 {
+        let l = p.places[i];
+        ok = ok
+            & slots::pick(
+                i < n,
+                slots::place_sound(l, channels),
+                slots::place_unused(l),
+            );
+        i += 1;
+    }
+    ok
+}
+
+fn edges_sound(p: Pattern) -> bool
+    ensures { λ r. ⌜ r ≡ slots (edgeSound (p .clocks) (p .placecount)) edgeUnused 32 (p .edgecount) (p .edges) ⌝ }
+{
+    let n = p.edgecount as usize;
+    let clocks = p.clocks;
+    let places = p.placecount;
+    let mut ok = n <= 32;
+    let mut i: usize = 0;
+    while i < 32 {
+        let e = p.edges[i];
+        ok = ok
+            & slots::pick(
+                i < n,
+                slots::edge_sound(e, clocks, places),
+                slots::edge_unused(e),
+            );
+        i += 1;
+    }
+    ok
+}
+
+// Whether some text reads as the pattern value. Any value is answered.
+pub fn sound(p: Pattern) -> bool
+    ensures { λ r. ⌜ r ≡ soundOf p ⌝ }
+{
+    header_sound(p.channels, p.clocks, p.low, p.high)
+        & (1 <= p.placecount)
+        & places_sound(p)
+        & edges_sound(p)
 }

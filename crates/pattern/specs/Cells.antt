@@ -1,0 +1,47 @@
+-- Ceilings and the cells needed (document 01, 'Monitor tables', 'Count cells').
+use Prim.Native.Nat.{ℕ, zero, suc, _+_, _*_, max}
+use mathlib.Core.List.{List, [], _∷_, flatMap}
+use mathlib.Core.Bool.{Bool, cond}
+use lib.Dec.{eqb, ltb}
+use Rattle.pattern.specs.declared.Guard.{Guard}
+use Rattle.pattern.specs.declared.Pattern.{Pattern}
+use Rattle.pattern.specs.declared.Counted.{Counted}
+use Rattle.pattern.specs.declared.Counted.the-variants.{Cells, Refused}
+use Rattle.pattern.specs.declared.Refusal.the-variants.{UnsoundPattern}
+use Rattle.pattern.specs.InUse.{guardsOf, edgesOf}
+use Rattle.pattern.specs.Sound.{soundOf}
+
+-- The bounds that guards put on a clock.
+unfoldable pub boundsOn : (clock : ℕ) → List Guard → List ℕ
+boundsOn k [] = []
+boundsOn k (g ∷ gs) = cond (eqb (g .clock) k) (g .bound ∷ boundsOn k gs) (boundsOn k gs)
+
+-- The largest of a list of numbers; 0 of none.
+unfoldable pub largest : List ℕ → ℕ
+largest [] = 0
+largest (n ∷ ns) = max n (largest ns)
+
+-- "The ceiling of a clock is 1 + its largest guard bound (1 if it has no guard)."
+unfoldable pub ceilingOf : Pattern → (clock : ℕ) → ℕ
+ceilingOf p k = largest (boundsOn k (flatMap guardsOf (edgesOf p))) + 1
+
+-- How many values of a clock a table tells apart: "(ceiling + 1)"; 1 for a clock that the pattern lacks.
+unfoldable pub radixOf : Pattern → (clock : ℕ) → ℕ
+radixOf p k = cond (ltb k (p .clocks)) (ceilingOf p k + 1) 1
+
+-- "the product over clocks of (ceiling + 1)": over the first n clocks
+unfoldable pub clockCells : Pattern → (n : ℕ) → ℕ
+clockCells p zero = 1
+clockCells p (suc k) = clockCells p k * (ceilingOf p k + 1)
+
+-- The cells of a table for runs of up to `longest` ticks: "(high + 1) × 2 × places × the product".
+unfoldable pub cellsFor : (longest : ℕ) → Pattern → ℕ
+cellsFor longest p = (longest + 1) * 2 * p .placecount * clockCells p (p .clocks)
+
+-- "Cells needed"
+unfoldable pub cellsNeeded : Pattern → ℕ
+cellsNeeded p = cellsFor (p .high) p
+
+-- "Count cells. 7."
+unfoldable pub cellsOf : Pattern → Counted
+cellsOf p = cond (soundOf p) (Cells (cellsNeeded p)) (Refused UnsoundPattern)
