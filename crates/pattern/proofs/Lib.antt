@@ -1,2 +1,4 @@
 pub mod SlotLaws
 pub mod BoundLaws
+pub mod ListLaws
+pub mod CeilingLaws

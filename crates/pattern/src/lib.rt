@@ -1,4 +1,5 @@
 // A pattern by value, as document 01 names its parts. Counts say how many slots of an array are in use.
+pub mod clocks;
 mod slots;
 
 use weighting::Weighing;

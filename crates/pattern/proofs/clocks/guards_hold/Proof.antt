@@ -1,0 +1,75 @@
+use native.Mathlib.Omega.{arith}
+use mathlib.Core.Path.{_≡_, refl, sym, ap, _∙_}
+use Prim.Native.Nat.{_≤_, _-_, min}
+use lib.ListN.{length, length-map, take, getD}
+use Rattle.pattern.specs.Sound.{noGuard}
+use Rattle.pattern.specs.Slots.{all}
+use Rattle.pattern.specs.Clocks.{guardHolds, guardsHold}
+use Rattle.pattern.proofs.ListLaws.{take-in-use, take-more}
+use Rattle.pattern.proofs.SlotLaws.{all-snoc}
+use Rattle.pattern.proofs.clocks.guards_hold.Statement.{statement}
+use Rattle.pattern.proofs.clocks.guards_hold.Tie as tie
+
+abbrev Inv-loop : tie.InvT-loop
+Inv-loop clocks e n ok₀ i₀ ok i = (i ≤ n) × (ok ≡ all (guardHolds clocks) (take i (e .guards)))
+
+abbrev μ-loop : tie.MeasureT-loop
+μ-loop clocks e n ok₀ i₀ ok i = n - i
+
+in-use-requires : tie.Need-in-use-requires Inv-loop μ-loop
+in-use-requires c κs = tt
+
+-- an array has as many elements as its type says
+four : (c : tie.Start Inv-loop μ-loop) → length (c .args .t1 .guards) ≡ 4
+four c = simp length-map at (c .good .0 .1 .1 .1 .1 .0 .1 .0 .1)
+
+loop-holds : tie.Need-loop-holds Inv-loop μ-loop
+loop-holds c = (omega arith, refl)
+
+mul-g : tie.Need-mul-g Inv-loop μ-loop
+mul-g c = omega arith
+
+element-copy-out-g : tie.Need-element-copy-out-g Inv-loop μ-loop
+element-copy-out-g c = omega arith
+
+guard-holds-requires : tie.Need-guard-holds-requires Inv-loop μ-loop
+guard-holds-requires c κs = tt
+
+add-i : tie.Need-add-i Inv-loop μ-loop
+add-i c = omega arith
+
+loop-less : tie.Need-loop-less Inv-loop μ-loop
+loop-less c = omega arith
+
+loop-again : tie.Need-loop-again Inv-loop μ-loop
+loop-again c =
+    let l = c .before .before .before .loop in
+    let a = c .before .before .before .before .before .args in
+    let n = c .before .before .before .before .in-use .ensures in
+    let e = four (c .before .before .before .before .before) in
+    (omega arith, rw (l .inv .1, c .guard-holds .ensures, take-more (l .i) (a .t1 .guards) noGuard (omega arith)) (sym (all-snoc (guardHolds (a .clocks)) (take (l .i) (a .t1 .guards)) (getD (a .t1 .guards) (l .i) noGuard))))
+
+returns : tie.Need-returns Inv-loop μ-loop
+unfolding guardsHold
+returns c =
+    let l = c .before .loop in
+    let a = c .before .before .before .args in
+    let n = c .before .before .in-use .ensures in
+    let i-is : l .i ≡ min (a .t1 .count) 4 = omega arith in
+    l .inv .1 ∙ rw (i-is, take-in-use (a .t1 .count) 4 (a .t1 .guards) (four (c .before .before .before)))
+
+pub guards-hold-spec : {M : Type 1} → statement M
+guards-hold-spec =
+    tie.close
+    (tie.spec
+    Inv-loop
+    μ-loop
+    in-use-requires
+    loop-holds
+    mul-g
+    element-copy-out-g
+    guard-holds-requires
+    add-i
+    loop-less
+    loop-again
+    returns)
