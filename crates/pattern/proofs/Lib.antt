@@ -2,3 +2,4 @@ pub mod SlotLaws
 pub mod BoundLaws
 pub mod ListLaws
 pub mod CeilingLaws
+pub mod SoundLaws

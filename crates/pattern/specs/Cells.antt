@@ -1,7 +1,8 @@
 -- Ceilings and the cells needed (document 01, 'Monitor tables', 'Count cells').
-use Prim.Native.Nat.{ℕ, zero, suc, _+_, _*_, max}
+use Prim.Native.Nat.{ℕ, zero, suc, _+_, _*_, _^_, _<_, _≤_, max}
+use mathlib.Core.Path.{_≡_}
 use mathlib.Core.List.{List, [], _∷_, flatMap}
-use mathlib.Core.Bool.{Bool, cond}
+use mathlib.Core.Bool.{true, cond}
 use lib.Dec.{eqb, ltb}
 use Rattle.pattern.specs.declared.Guard.{Guard}
 use Rattle.pattern.specs.declared.Pattern.{Pattern}
@@ -34,6 +35,15 @@ unfoldable pub clockCells : Pattern → (n : ℕ) → ℕ
 clockCells p zero = 1
 clockCells p (suc k) = clockCells p k * (ceilingOf p k + 1)
 
+-- The product of the first n radices. A cell's index has a digit for each of four clocks, so it takes all four.
+unfoldable pub radixProduct : Pattern → (n : ℕ) → ℕ
+radixProduct p zero = 1
+radixProduct p (suc k) = radixProduct p k * radixOf p k
+
+-- Theorem: four clocks always, also where the pattern has fewer, come to the same cells.
+abbrev pub FourRadices : Type 0
+FourRadices = (p : Pattern) → p .clocks ≤ 4 → radixProduct p 4 ≡ clockCells p (p .clocks)
+
 -- The cells of a table for runs of up to `longest` ticks: "(high + 1) × 2 × places × the product".
 unfoldable pub cellsFor : (longest : ℕ) → Pattern → ℕ
 cellsFor longest p = (longest + 1) * 2 * p .placecount * clockCells p (p .clocks)
@@ -41,6 +51,10 @@ cellsFor longest p = (longest + 1) * 2 * p .placecount * clockCells p (p .clocks
 -- "Cells needed"
 unfoldable pub cellsNeeded : Pattern → ℕ
 cellsNeeded p = cellsFor (p .high) p
+
+-- Theorem: a sound pattern's cells fit 64 bits.
+abbrev pub CellsFit : Type 0
+CellsFit = (p : Pattern) → soundOf p ≡ true → cellsNeeded p < 2 ^ 64
 
 -- "Count cells. 7."
 unfoldable pub cellsOf : Pattern → Counted
