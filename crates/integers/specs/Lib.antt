@@ -1,0 +1,2 @@
+-- Definitions on whole numbers that the kit lacks.
+pub mod Least
