@@ -3,12 +3,13 @@
 use Prim.Native.Nat.{ℕ, zero, suc, _+_, _-_, _≤_, _<_, min, max}
 use native.Mathlib.Omega.{arith}
 use mathlib.Core.Path.{_≡_, refl, sym, ap, _∙_}
-use mathlib.Core.Bool.{Bool, true, false, not, cond}
+use mathlib.Core.Bool.{Bool, true, false, not}
 use borrow.Author.Tests.{leb-true, leb-false, lt-ltb, le-ltb, not-true, not-false}
 use lib.Dec.{T, ltb, leb, ltb→lt, nltb→le}
 use lib.IntN.{ℤ, pos, negsuc, negℤ, subℕ, _+ℤ_, _-ℤ_, natAbs}
 use lib.Signed.{mag, ltZ, leZ}
 use Rattle.integers.specs.Least.{minZ, maxZ}
+use Rattle.integers.proofs.Tests.{is-true, is-false, T-true, T-false, true-T, false-T, by-cond}
 
 unfoldable pub up : ℤ → ℕ
 up (pos n) = n
@@ -42,14 +43,10 @@ mag-is (negsuc n) = (omega arith, omega arith)
 
 -- ---- sums
 
-by-cond : (c : Bool) (x y : ℤ) (P : ℤ → Type 0) → (T c → P x) → (T (not c) → P y) → P (cond c x y)
-by-cond true x y P f g = f tt
-by-cond false x y P f g = g tt
-
 sub-law : (a b : ℕ) → up (subℕ a b) + b ≡ down (subℕ a b) + a
 unfolding up down
 sub-law a b =
-    by-cond (ltb a b) (negsuc (b - suc a)) (pos (a - b)) (λ z. up z + b ≡ down z + a)
+    by-cond (λ z. up z + b ≡ down z + a) (ltb a b) (negsuc (b - suc a)) (pos (a - b))
     (λ t. let h = ltb→lt a b t in omega arith)
     (λ t. let h = nltb→le a b t in omega arith)
 
@@ -101,20 +98,11 @@ gt-of (pos a) (negsuc b) e = omega arith
 gt-of (negsuc a) (pos b) e = let z : _≡_ {A = ℕ} 0 1 = cc in omega arith
 gt-of (negsuc a) (negsuc b) e = omega (arith, leb-false)
 
--- a test that comes out false where a fact says otherwise
-test : (t : Bool) → (t ≡ false → ⊥) → t ≡ true
-test true h = refl
-test false h = absurd (h refl)
-
-untest : (t : Bool) → (t ≡ true → ⊥) → t ≡ false
-untest true h = absurd (h refl)
-untest false h = refl
-
 pub of-le : (a b : ℤ) → up a + down b ≤ up b + down a → leZ a b ≡ true
-of-le a b h = test (leZ a b) (λ e. omega (arith, gt-of a b e))
+of-le a b h = is-true (leZ a b) (λ e. omega (arith, gt-of a b e))
 
 pub of-gt : (a b : ℤ) → up b + down a < up a + down b → leZ a b ≡ false
-of-gt a b h = untest (leZ a b) (λ e. omega (arith, le-of a b e))
+of-gt a b h = is-false (leZ a b) (λ e. omega (arith, le-of a b e))
 
 -- less than is not at least, turned round
 pub lt-not-le : (a b : ℤ) → ltZ a b ≡ not (leZ b a)
@@ -136,20 +124,6 @@ pub of-ge : (a b : ℤ) → up b + down a ≤ up a + down b → ltZ a b ≡ fals
 of-ge a b h = lt-not-le a b ∙ ap not (of-le b a h)
 
 -- ---- the same where the test's outcome stands under T
-
-pub T-true : (t : Bool) → T t → t ≡ true
-T-true true h = refl
-T-true false h = absurd h
-
-pub true-T : (t : Bool) → t ≡ true → T t
-true-T t e = rw e tt
-
-pub T-false : (t : Bool) → T (not t) → t ≡ false
-T-false true h = absurd h
-T-false false h = refl
-
-pub false-T : (t : Bool) → t ≡ false → T (not t)
-false-T t e = rw e tt
 
 pub T-le-of : (a b : ℤ) → T (leZ a b) → up a + down b ≤ up b + down a
 T-le-of a b h = le-of a b (T-true (leZ a b) h)
@@ -180,13 +154,13 @@ of-T-ge a b h = false-T (ltZ a b) (of-ge a b h)
 pub min-is : (a b : ℤ) → up (minZ a b) + (down a + down b) ≡ down (minZ a b) + min (up a + down b) (up b + down a)
 unfolding minZ
 min-is a b =
-    by-cond (leZ a b) a b (λ z. up z + (down a + down b) ≡ down z + min (up a + down b) (up b + down a))
+    by-cond (λ z. up z + (down a + down b) ≡ down z + min (up a + down b) (up b + down a)) (leZ a b) a b
     (λ h. omega (arith, T-le-of a b h))
     (λ h. omega (arith, T-gt-of a b h))
 
 pub max-is : (a b : ℤ) → up (maxZ a b) + (down a + down b) ≡ down (maxZ a b) + max (up a + down b) (up b + down a)
 unfolding maxZ
 max-is a b =
-    by-cond (leZ a b) b a (λ z. up z + (down a + down b) ≡ down z + max (up a + down b) (up b + down a))
+    by-cond (λ z. up z + (down a + down b) ≡ down z + max (up a + down b) (up b + down a)) (leZ a b) b a
     (λ h. omega (arith, T-le-of a b h))
     (λ h. omega (arith, T-gt-of a b h))
