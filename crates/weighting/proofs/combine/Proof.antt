@@ -18,7 +18,7 @@ enum-told-2 c = search needs
 add-result : tie.Need-add-result
 add-result c =
     let s = c .before .before in
-    rw (toZ-ofZ (s .fits .a), toZ-ofZ (s .fits .b)) (rw (c .enum-told2 .given .1) at (s .pre))
+    simp (toZ-ofZ (s .fits .a), toZ-ofZ (s .fits .b)) (rw (c .enum-told2 .given .1) at (s .pre))
 
 returns : tie.Need-returns
 returns c =
