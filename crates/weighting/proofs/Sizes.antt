@@ -1,5 +1,5 @@
 -- The size of a combination, for margin and sum alike, and that it fits an i64.
-use Prim.Native.Nat.{ℕ, suc, _+_, _*_, _≤_, _<_, _^_, max}
+use Prim.Native.Nat.{ℕ, _+_, _*_, _≤_, _<_, _^_, max}
 use native.Mathlib.Nat.{suc-mul}
 use native.Mathlib.Omega.{arith}
 use mathlib.Core.Path.{refl}
