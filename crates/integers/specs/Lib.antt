@@ -1,0 +1,3 @@
+-- Definitions on whole numbers that the kit lacks.
+pub mod Least
+pub mod Equal
