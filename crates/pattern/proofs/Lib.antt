@@ -3,3 +3,5 @@ pub mod BoundLaws
 pub mod ListLaws
 pub mod CeilingLaws
 pub mod SoundLaws
+pub mod CellLaws
+pub mod DistanceLaws

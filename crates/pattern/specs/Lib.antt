@@ -2,5 +2,6 @@ pub mod Slots
 pub mod Sound
 pub mod InUse
 pub mod Clocks
+pub mod Distance
 pub mod Cells
 pub mod Refusal

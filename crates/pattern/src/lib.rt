@@ -1,10 +1,14 @@
 // A pattern by value, as document 01 names its parts. Counts say how many slots of an array are in use.
 pub mod clocks;
+pub mod distance;
 mod slots;
 
 use weighting::Weighing;
 ghost use mathlib.Core.Path.{_≡_};
+ghost use mathlib.Core.Bool.{true};
 ghost use Rattle.pattern.specs.Slots.{slots};
+ghost use Rattle.pattern.specs.Cells.{radixProduct, cellsNeeded, cellsOf};
+ghost use Rattle.pattern.specs.Refusal.{numberOf};
 ghost use Rattle.pattern.specs.Sound.{placeSound, placeUnused, edgeSound, edgeUnused, headerInRange, soundOf};
 
 // The four signs of tests and guards: `<`, `<=`, `>`, `>=`.
@@ -147,4 +151,59 @@ pub fn sound(p: Pattern) -> bool
         & (1 <= p.placecount)
         & places_sound(p)
         & edges_sound(p)
+}
+
+// All four radices; a clock that the pattern lacks has radix 1.
+fn radices(p: Pattern) -> u64
+    requires { ⌜ soundOf p ≡ true ⌝ }
+    ensures { λ r. ⌜ r ≡ radixProduct p 4 ⌝ }
+{
+    let mut product: u64 = 1;
+    let mut k: u8 = 0;
+    while k < 4 {
+        product = product * clocks::radix(p, k);
+        k += 1;
+    }
+    product
+}
+
+// "(high + 1) × 2 × places × the product over clocks of (ceiling + 1)"
+fn cells_needed(p: Pattern) -> u64
+    requires { ⌜ soundOf p ≡ true ⌝ }
+    ensures { λ r. ⌜ r ≡ cellsNeeded p ⌝ }
+{
+    (p.high as u64 + 1) * 2 * (p.placecount as u64) * radices(p)
+}
+
+// The cells needed, or refusal 7.
+pub fn cells(p: Pattern) -> Counted
+    ensures { λ r. ⌜ r ≡ cellsOf p ⌝ }
+{
+    if sound(p) {
+        Counted::Cells(cells_needed(p))
+    } else {
+        Counted::Refused(Refusal::UnsoundPattern)
+    }
+}
+
+// The number of a refusal in document 01.
+pub fn number(r: Refusal) -> u8
+    ensures { λ n. ⌜ n ≡ numberOf r ⌝ }
+{
+    match r {
+        Refusal::TextTooLong => 1,
+        Refusal::BrokenForm => 2,
+        Refusal::OutOfRange => 3,
+        Refusal::TooMany => 4,
+        Refusal::UnknownIndex => 5,
+        Refusal::OutputTooShort => 6,
+        Refusal::UnsoundPattern => 7,
+        Refusal::BrokenRecord => 8,
+        Refusal::BrokenSteps => 9,
+        Refusal::NotARun => 10,
+        Refusal::TableTooShort => 11,
+        Refusal::BrokenState => 12,
+        Refusal::TooManyTicks => 13,
+        Refusal::BrokenCell => 14,
+    }
 }

@@ -1,0 +1,72 @@
+-- A difference of two i32 as the machine makes it in 64 bits, and its negation: exact, and in range. A place's worth,
+-- test by test.
+use Prim.Native.Nat.{ℕ, _+_, _^_, _<_, _≤_}
+use native.Mathlib.Omega.{arith}
+use mathlib.Core.Path.{_≡_, refl, sym, _∙_}
+use mathlib.Core.List.{List, [], _∷_, map, map-append}
+use lib.ListN.{length, take, getD}
+use lib.IntN.{ℤ, pos, negℤ, natAbs, _-ℤ_, +ℤ-idl}
+use mir.Syntax.{w32, w64}
+use mir.Val.{SFits, toZ, ofZ}
+use mir.Facts.{toZ-ofZ}
+use Rattle.weighting.specs.declared.Weighing.{Weighing}
+use Rattle.weighting.specs.Weighting.{combineFrom, combineAll}
+use Rattle.weighting.specs.Weightings.{weightingOf}
+use Rattle.weighting.proofs.Worths.{combineAll-snoc}
+use Rattle.pattern.specs.declared.Sign.{Sign}
+use Rattle.pattern.specs.declared.Sign.the-variants.{Less, AtMost, More, AtLeast}
+use Rattle.pattern.specs.declared.Test.{Test}
+use Rattle.pattern.specs.Distance.{Sample, distanceFrom, distanceOf, distanceIn}
+use Rattle.pattern.proofs.ListLaws.{take-more}
+use Rattle.integers.proofs.Ranges.{abs-sub, fits-abs}
+use Rattle.integers.proofs.Casts.{widen-back, sub-fits}
+use Rattle.integers.proofs.Sums.{sub-turn}
+
+-- an i32 widened to an i64
+abbrev pub wide : ℤ → ℤ
+wide z = toZ w64 (ofZ w64 (toZ w32 (ofZ w32 z)))
+
+module _ (v b : ℤ) (p : SFits w32 v) (q : SFits w32 b) where
+  pub above-fits : SFits w64 (wide v -ℤ wide b)
+  above-fits = rw (widen-back v p, widen-back b q) (sub-fits v b p q)
+
+  pub above-is : toZ w64 (ofZ w64 (wide v -ℤ wide b)) ≡ v -ℤ b
+  above-is = toZ-ofZ above-fits ∙ rw (widen-back v p, widen-back b q)
+
+  turned : pos 0 -ℤ toZ w64 (ofZ w64 (wide v -ℤ wide b)) ≡ b -ℤ v
+  turned = rw above-is (+ℤ-idl (negℤ (v -ℤ b)) ∙ sym (sub-turn b v))
+
+  pub below-fits : SFits w64 (pos 0 -ℤ toZ w64 (ofZ w64 (wide v -ℤ wide b)))
+  below-fits = rw turned (sub-fits b v q p)
+
+  pub below-is : toZ w64 (ofZ w64 (pos 0 -ℤ toZ w64 (ofZ w64 (wide v -ℤ wide b)))) ≡ b -ℤ v
+  below-is = toZ-ofZ below-fits ∙ turned
+
+-- ---- sizes
+
+-- whatever i32 the value and the bound are
+pub distance-size : (t : Test) (v : ℤ) → SFits w32 v → SFits w32 (t .bound) → natAbs (distanceOf t v) ≤ 2 ^ 32
+distance-size t v p q = by (t .sign)
+  where
+    by : (s : Sign) → natAbs (distanceFrom s (t .bound) v) ≤ 2 ^ 32
+    by Less = omega (arith, abs-sub (t .bound) v, fits-abs w32 v p, fits-abs w32 (t .bound) q)
+    by AtMost = omega (arith, abs-sub (t .bound) v, fits-abs w32 v p, fits-abs w32 (t .bound) q)
+    by More = omega (arith, abs-sub v (t .bound), fits-abs w32 v p, fits-abs w32 (t .bound) q)
+    by AtLeast = omega (arith, abs-sub v (t .bound), fits-abs w32 v p, fits-abs w32 (t .bound) q)
+
+-- ---- a place's worth, test by test
+
+-- the worth of the first i tests
+unfoldable pub worthTo : Weighing → Sample → List Test → ℕ → ℤ
+worthTo w s ts i = combineAll (weightingOf w) (map (distanceIn s) (take i ts))
+
+pub worth-none : (w : Weighing) (s : Sample) (ts : List Test) → weightingOf w .unit ≡ worthTo w s ts 0
+unfolding worthTo combineFrom
+worth-none w s ts = refl
+
+pub worth-more : (w : Weighing) (s : Sample) (ts : List Test) (i : ℕ) (d : Test) → i < length ts
+    → weightingOf w .combine (worthTo w s ts i) (distanceIn s (getD ts i d)) ≡ worthTo w s ts (i + 1)
+unfolding worthTo
+worth-more w s ts i d h =
+    rw (take-more i ts d h, map-append (distanceIn s) (take i ts) (getD ts i d ∷ []))
+    (sym (combineAll-snoc (weightingOf w) (map (distanceIn s) (take i ts)) (distanceIn s (getD ts i d))))

@@ -1,0 +1,22 @@
+use mathlib.Core.Path.{_≡_, refl, sym, ap, _∙_}
+use Rattle.pattern.specs.Cells.{cellsOf}
+use borrow.Author.Needs.{needs}
+use Rattle.pattern.proofs.cells.Statement.{statement}
+use Rattle.pattern.proofs.cells.Tie as tie
+
+sound-requires : tie.Need-sound-requires
+sound-requires c κs = search needs
+
+cells-needed-requires : tie.Need-cells-needed-requires
+cells-needed-requires c κs = sym (c .before .sound .ensures) ∙ c .if1 .taken
+
+returns : tie.Need-returns
+unfolding cellsOf
+returns c = rw (← c .before .before .sound .ensures, c .before .if1 .taken, c .cells-needed .ensures)
+
+returns-2 : tie.Need-returns-2
+unfolding cellsOf
+returns-2 c = rw (← c .before .sound .ensures, c .if1 .left)
+
+pub cells-spec : {M : Type 1} → statement M
+cells-spec = tie.close (tie.spec sound-requires cells-needed-requires returns returns-2)

@@ -1,0 +1,51 @@
+-- Distances and the worth of a sample in a place (document 01, 'Record and run').
+use Prim.Native.Nat.{ℕ, _^_, _≤_}
+use mathlib.Core.Path.{_≡_}
+use mathlib.Core.List.{List, map}
+use lib.ListN.{getD}
+use lib.IntN.{ℤ, pos, natAbs, _-ℤ_}
+use Rattle.weighting.specs.declared.Weighing.{Weighing}
+use Rattle.weighting.specs.Weighting.{combineAll}
+use Rattle.weighting.specs.Weightings.{weightingOf}
+use Rattle.pattern.specs.declared.Sign.{Sign}
+use Rattle.pattern.specs.declared.Sign.the-variants.{Less, AtMost, More, AtLeast}
+use Rattle.pattern.specs.declared.Test.{Test}
+use Rattle.pattern.specs.declared.Place.{Place}
+use Rattle.pattern.specs.InUse.{testsOf}
+
+-- A sample is one value for each channel.
+abbrev pub Sample : Type 0
+Sample = List ℤ
+
+-- What a channel reads in a sample.
+abbrev pub readingOf : Sample → (channel : ℕ) → ℤ
+readingOf s k = getD s k (pos 0)
+
+-- "A test's distance is value - bound for `>` and `>=`, bound - value for `<` and `<=`; it may be negative, and strict
+-- signs measure like the others."
+abbrev pub distanceFrom : Sign → (bound value : ℤ) → ℤ
+distanceFrom Less b v = b -ℤ v
+distanceFrom AtMost b v = b -ℤ v
+distanceFrom More b v = v -ℤ b
+distanceFrom AtLeast b v = v -ℤ b
+
+abbrev pub distanceOf : Test → (value : ℤ) → ℤ
+distanceOf t v = distanceFrom (t .sign) (t .bound) v
+
+-- A test's distance in a sample.
+abbrev pub distanceIn : Sample → Test → ℤ
+distanceIn s t = distanceOf t (readingOf s (t .channel))
+
+-- The distances of a place's tests in a sample.
+unfoldable pub distancesOf : Place → Sample → List ℤ
+distancesOf l s = map (distanceIn s) (testsOf l)
+
+-- What one observation of a sample is worth in a place: "the least distance over its tests" in margin, and 2,000,001
+-- without tests; "adds up the distances of all its tests" in sum.
+unfoldable pub placeWorth : Weighing → Place → Sample → ℤ
+placeWorth w l s = combineAll (weightingOf w) (distancesOf l s)
+
+-- r is the test's distance in the sample. Whatever i32 the value and the bound are, it is at most 2^32 in size.
+pub record Measured (t : Test) (s : Sample) (r : ℤ) : Type 0 where
+  pub is : r ≡ distanceIn s t
+  pub size : natAbs r ≤ 2 ^ 32
