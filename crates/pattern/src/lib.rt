@@ -8,6 +8,7 @@ ghost use mathlib.Core.Path.{_≡_};
 ghost use mathlib.Core.Bool.{true};
 ghost use Rattle.pattern.specs.Slots.{slots};
 ghost use Rattle.pattern.specs.Cells.{radixProduct, cellsNeeded, cellsOf};
+ghost use Rattle.pattern.specs.Kinds.{isStart, isEnd};
 ghost use Rattle.pattern.specs.Refusal.{numberOf};
 ghost use Rattle.pattern.specs.Sound.{placeSound, placeUnused, edgeSound, edgeUnused, headerInRange, soundOf};
 
@@ -183,6 +184,30 @@ pub fn cells(p: Pattern) -> Counted
         Counted::Cells(cells_needed(p))
     } else {
         Counted::Refused(Refusal::UnsoundPattern)
+    }
+}
+
+// May a run begin in a place of this kind?
+pub fn is_start(k: Kind) -> bool
+    ensures { λ r. ⌜ r ≡ isStart k ⌝ }
+{
+    match k {
+        Kind::Start => true,
+        Kind::Plain => false,
+        Kind::End => false,
+        Kind::Both => true,
+    }
+}
+
+// May a run end in a place of this kind?
+pub fn is_end(k: Kind) -> bool
+    ensures { λ r. ⌜ r ≡ isEnd k ⌝ }
+{
+    match k {
+        Kind::Start => false,
+        Kind::Plain => false,
+        Kind::End => true,
+        Kind::Both => true,
     }
 }
 

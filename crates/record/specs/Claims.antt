@@ -1,0 +1,53 @@
+-- What is proved of prices. The proofs are in proofs/.
+use Prim.Native.Nat.{ℕ, _+_, _≤_}
+use mathlib.Core.Path.{_≡_}
+use mathlib.Core.List.{List, [], _∷_, _++_, map}
+use mathlib.Core.Bool.{Bool, true, false, not}
+use lib.Dec.{eqb}
+use lib.ListN.{set}
+use lib.IntN.{natAbs}
+use Rattle.weighting.specs.declared.Weighing.the-variants.{Margin}
+use Rattle.weighting.specs.Weighting.{combineAll}
+use Rattle.weighting.specs.Weightings.{margin}
+use Rattle.pattern.specs.declared.Place.{Place}
+use Rattle.pattern.specs.declared.Pattern.{Pattern}
+use Rattle.pattern.specs.Slots.{all}
+use Rattle.pattern.specs.InUse.{placeAt, edgeAt}
+use Rattle.pattern.specs.Distance.{Sample, placeWorth}
+use Rattle.record.specs.Record.{Piece, Book, ticksOf}
+use Rattle.record.specs.Joined.{joined}
+use Rattle.record.specs.Run.{Step, lengthOf}
+use Rattle.record.specs.Worth.{priceOf}
+
+-- A piece cut in two, or two neighbours with equal values made one, changes no price.
+abbrev pub CutsDoNotMatter : Type 0
+CutsDoNotMatter =
+    (p : Pattern) (before after : List Piece) (m n : ℕ) (s : Sample) (begin : ℕ) (xs : List Step)
+    → priceOf p (ticksOf (before ++ record { duration = m + n; sample = s } ∷ after)) begin xs
+    ≡ priceOf p (ticksOf (before ++ record { duration = m; sample = s } ∷ record { duration = n; sample = s } ∷ after)) begin xs
+
+-- In margin, an observation counted once or at every tick comes to the same.
+abbrev pub MarginCountsTicks : Type 0
+MarginCountsTicks =
+    (l : Place) (b : Book) → combineAll margin (map (placeWorth Margin l) (joined b)) ≡ combineAll margin (map (placeWorth Margin l) b)
+
+-- A place that no step leaves, as the end place of a run that passes it only at its end, has no say but by its kind.
+abbrev pub withPlace : Pattern → ℕ → Place → Pattern
+withPlace p k l =
+    record {
+      weighing = p .weighing;
+      channels = p .channels;
+      clocks = p .clocks;
+      low = p .low;
+      high = p .high;
+      placecount = p .placecount;
+      places = set (p .places) k l;
+      edgecount = p .edgecount;
+      edges = p .edges;
+    }
+
+abbrev pub EndPlaceIsSilent : Type 0
+EndPlaceIsSilent =
+    (p : Pattern) (b : Book) (begin : ℕ) (xs : List Step) (k : ℕ) (l : Place) → l .kind ≡ placeAt p k .kind
+    → all (λ x. not (eqb (edgeAt p (x .edge) .from) k)) xs ≡ true
+    → priceOf (withPlace p k l) b begin xs ≡ priceOf p b begin xs

@@ -1,0 +1,7 @@
+// Pricing a run laid out edge by edge.
+use pattern::Refusal;
+
+pub enum Priced {
+    Score(i64),
+    Refused(Refusal),
+}
