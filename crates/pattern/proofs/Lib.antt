@@ -5,3 +5,4 @@ pub mod CeilingLaws
 pub mod SoundLaws
 pub mod CellLaws
 pub mod DistanceLaws
+pub mod Claims

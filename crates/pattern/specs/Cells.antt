@@ -1,7 +1,7 @@
 -- Ceilings and the cells needed (document 01, 'Monitor tables', 'Count cells').
-use Prim.Native.Nat.{ℕ, zero, suc, _+_, _*_, _^_, _<_, _≤_, max}
+use Prim.Native.Nat.{ℕ, zero, suc, _+_, _*_, _^_, _<_, _≤_, min, max}
 use mathlib.Core.Path.{_≡_}
-use mathlib.Core.List.{List, [], _∷_, flatMap}
+use mathlib.Core.List.{List, [], _∷_, flatMap, List·Memᴰ}
 use mathlib.Core.Bool.{true, cond}
 use lib.Dec.{eqb, ltb}
 use Rattle.pattern.specs.declared.Guard.{Guard}
@@ -10,6 +10,8 @@ use Rattle.pattern.specs.declared.Counted.{Counted}
 use Rattle.pattern.specs.declared.Counted.the-variants.{Cells, Refused}
 use Rattle.pattern.specs.declared.Refusal.the-variants.{UnsoundPattern}
 use Rattle.pattern.specs.InUse.{guardsOf, edgesOf}
+use Rattle.pattern.specs.Clocks.{onSide}
+use Rattle.pattern.specs.Refusal.{numberOf}
 use Rattle.pattern.specs.Sound.{soundOf}
 
 -- The bounds that guards put on a clock.
@@ -25,6 +27,17 @@ largest (n ∷ ns) = max n (largest ns)
 -- "The ceiling of a clock is 1 + its largest guard bound (1 if it has no guard)."
 unfoldable pub ceilingOf : Pattern → (clock : ℕ) → ℕ
 ceilingOf p k = largest (boundsOn k (flatMap guardsOf (edgesOf p))) + 1
+
+-- "clocks are held at their ceiling": a clock's value as a table has it.
+abbrev pub heldAt : Pattern → (clock value : ℕ) → ℕ
+heldAt p k c = min c (ceilingOf p k)
+
+-- Theorem: a guard of the pattern cannot tell a clock from the clock held at its ceiling. (With a ceiling at the largest
+-- bound itself it could: `(> 0 3)` would never hold.)
+abbrev pub GuardsSeeHeldClocks : Type 0
+GuardsSeeHeldClocks =
+    (p : Pattern) (g : Guard) → List·Memᴰ g (flatMap guardsOf (edgesOf p)) → (value : ℕ)
+    → onSide (g .sign) (heldAt p (g .clock) value) (g .bound) ≡ onSide (g .sign) value (g .bound)
 
 -- How many values of a clock a table tells apart: "(ceiling + 1)"; 1 for a clock that the pattern lacks.
 unfoldable pub radixOf : Pattern → (clock : ℕ) → ℕ
@@ -56,6 +69,19 @@ cellsNeeded p = cellsFor (p .high) p
 abbrev pub CellsFit : Type 0
 CellsFit = (p : Pattern) → soundOf p ≡ true → cellsNeeded p < 2 ^ 64
 
+-- Theorem: and they are at least 1, so that 0 can stand for a refused text.
+abbrev pub SomeCell : Type 0
+SomeCell = (p : Pattern) → soundOf p ≡ true → 1 ≤ cellsNeeded p
+
+-- What an answer says: the refusal's number (0 if there is none), and the cells, zero beside a refusal.
+abbrev pub countedAs : Counted → ℕ × ℕ
+countedAs (Cells n) = (0, n)
+countedAs (Refused r) = (numberOf r, 0)
+
 -- "Count cells. 7."
 unfoldable pub cellsOf : Pattern → Counted
 cellsOf p = cond (soundOf p) (Cells (cellsNeeded p)) (Refused UnsoundPattern)
+
+-- Theorem: what `cells` answers, in document 01's numbers.
+abbrev pub CellsCounted : Type 0
+CellsCounted = (p : Pattern) → countedAs (cellsOf p) ≡ cond (soundOf p) (0, cellsNeeded p) (7, 0)

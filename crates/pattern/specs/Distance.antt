@@ -1,10 +1,13 @@
 -- Distances and the worth of a sample in a place (document 01, 'Record and run').
 use Prim.Native.Nat.{ℕ, _^_, _≤_}
 use mathlib.Core.Path.{_≡_}
-use mathlib.Core.List.{List, map}
+use mathlib.Core.List.{List, map, List·Memᴰ}
+use lib.Dec.{T}
 use lib.ListN.{getD}
+use lib.Signed.{leZ}
 use lib.IntN.{ℤ, pos, natAbs, _-ℤ_}
 use Rattle.weighting.specs.declared.Weighing.{Weighing}
+use Rattle.weighting.specs.declared.Weighing.the-variants.{Margin}
 use Rattle.weighting.specs.Weighting.{combineAll}
 use Rattle.weighting.specs.Weightings.{weightingOf}
 use Rattle.pattern.specs.declared.Sign.{Sign}
@@ -44,6 +47,20 @@ distancesOf l s = map (distanceIn s) (testsOf l)
 -- without tests; "adds up the distances of all its tests" in sum.
 unfoldable pub placeWorth : Weighing → Place → Sample → ℤ
 placeWorth w l s = combineAll (weightingOf w) (distancesOf l s)
+
+-- Theorem: values and bounds in document 01's range, -1,000,000 to 1,000,000, are at most 2,000,000 apart, so that
+-- 2,000,001 stands above every distance.
+abbrev pub DistancesInRange : Type 0
+DistancesInRange =
+    (t : Test) (v : ℤ) → natAbs (t .bound) ≤ 1_000_000 → natAbs v ≤ 1_000_000 → natAbs (distanceOf t v) ≤ 2_000_000
+
+-- Theorem: then a place with tests is worth its least distance in margin; the 2,000,001 that the combination starts from
+-- does not show.
+abbrev pub MarginIsLeast : Type 0
+MarginIsLeast =
+    (l : Place) (s : Sample) → ((d : ℤ) → List·Memᴰ d (distancesOf l s) → natAbs d ≤ 2_000_000)
+    → (d : ℤ) → List·Memᴰ d (distancesOf l s)
+    → List·Memᴰ (placeWorth Margin l s) (distancesOf l s) × T (leZ (placeWorth Margin l s) d)
 
 -- r is the test's distance in the sample. Whatever i32 the value and the bound are, it is at most 2^32 in size.
 pub record Measured (t : Test) (s : Sample) (r : ℤ) : Type 0 where

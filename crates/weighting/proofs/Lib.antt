@@ -4,3 +4,4 @@ pub mod Shortest
 pub mod Worths
 pub mod Cell
 pub mod Sizes
+pub mod Claims

@@ -5,3 +5,4 @@ pub mod Weighting
 pub mod Shortest
 pub mod Weightings
 pub mod Cell
+pub mod Claims

@@ -4,7 +4,7 @@ use mathlib.Core.Option.{Option, none, some}
 use mathlib.Core.List.{List, [], _∷_}
 use lib.Dec.{T}
 
--- `atLeast a b`: a is at least as good as b.
+-- `atLeast a b`: a is at least as good as b. The laws: reflexive, total, transitive.
 pub record Order (A : Type 0) : Type 0 where
   pub atLeast : A → A → Bool
   pub self : (a : A) → T (atLeast a a)

@@ -1,11 +1,12 @@
--- An arbitrary weighting: what the laws of margin and sum have in common, and all that the tables rest on.
+-- An arbitrary weighting: the laws that margin and sum have in common.
 use mathlib.Core.Path.{_≡_}
 use mathlib.Core.Bool.{Bool}
 use mathlib.Core.List.{List, [], _∷_}
 use lib.Dec.{T}
 use Rattle.weighting.specs.Order.{Order}
 
--- Worths have an order and a combination, by which a better part makes no worse a whole. The unit is the worth of
+-- Worths have an order (reflexive, total and transitive by `Order`, antisymmetric by `equal`) and a combination, by which
+-- a better first part makes no worse a whole. The unit is the worth of
 -- nothing; it is a unit for worths, and `worth` says which of W are worths.
 pub record Weighting (W : Type 0) : Type 0 where
   pub order : Order W

@@ -60,7 +60,7 @@ pub fn better(w: Weighing, a: i64, b: i64) -> i64
     if at_least(w, a, b) { a } else { b }
 }
 
-// The cell after one more worth was offered to it.
+// The cell after one more worth was offered to it. The mark is no worth: who offers it empties the cell or leaves it.
 pub fn choose(w: Weighing, cell: i64, worth: i64) -> i64
     ensures { λ r. ⌜ r ≡ cellOf (choose (weightingOf w .order) (heldIn cell) worth) ⌝ }
 {
