@@ -1,0 +1,111 @@
+-- Holding the clocks of a sound pattern at their ceilings goes unnoticed.
+use Prim.Native.Nat.{ℕ, zero, suc, _+_, _-_, _<_, _≤_, min}
+use native.Mathlib.Omega.{arith}
+use mathlib.Core.Path.{_≡_, refl, sym, ap, _∙_}
+use mathlib.Core.List.{List, [], _∷_, map, zipWith, flatMap, List·Memᴰ}
+use mathlib.Core.Bool.{Bool, true, false, cond, _&&_}
+use borrow.Author.Tests.{lt-ltb, ltb-true}
+use lib.Dec.{ltb}
+use lib.ListN.{length, getD, replicate}
+use Rattle.pattern.specs.declared.Guard.{Guard}
+use Rattle.pattern.specs.declared.Edge.{Edge}
+use Rattle.pattern.specs.declared.Pattern.{Pattern}
+use Rattle.pattern.specs.InUse.{guardsOf, edgesOf}
+use Rattle.pattern.specs.Sound.{guardInRange, guardKnown, edgeSound, soundOf}
+use Rattle.pattern.specs.Clocks.{Clocks, clockAt, onSide, guardHolds, guardsHold, afterResets}
+use Rattle.pattern.specs.Cells.{ceilingOf, radixOf, heldAt}
+use Rattle.pattern.proofs.SoundLaws.{both, parts, edge-parts}
+use Rattle.pattern.proofs.Claims.{guards-see-held}
+use Rattle.walks.specs.Holding.{Holding}
+use Rattle.book.specs.Automaton.{automatonOf, ceilings, held}
+use Rattle.book.specs.Claims.{CeilingsHold}
+use Rattle.book.proofs.Members.{all-member, all-same, in-flatMap}
+
+-- ---- lists held below other lists
+
+zero-held : (ts : List ℕ) → zipWith min ts (replicate (length ts) 0) ≡ replicate (length ts) 0
+unfolding zipWith
+zero-held [] = refl
+zero-held (t ∷ ts) = let e : min t 0 ≡ 0 = omega arith in rw (e, zero-held ts)
+
+tick-held : (ts cs : List ℕ) → zipWith min ts (map (λ c. c + 1) (zipWith min ts cs)) ≡ zipWith min ts (map (λ c. c + 1) cs)
+unfolding zipWith
+tick-held [] cs = refl
+tick-held (t ∷ ts) [] = refl
+tick-held (t ∷ ts) (c ∷ cs) = let e : min t (min t c + 1) ≡ min t (c + 1) = omega arith in rw (e, tick-held ts cs)
+
+reset-held : (ts : List ℕ) (fs : List Bool) (cs : List ℕ)
+    → zipWith min ts (zipWith (λ f c. cond f 0 c) fs cs) ≡ zipWith (λ f c. cond f 0 c) fs (zipWith min ts cs)
+unfolding zipWith
+reset-held [] [] cs = refl
+reset-held [] (f ∷ fs) [] = refl
+reset-held [] (f ∷ fs) (c ∷ cs) = refl
+reset-held (t ∷ ts) [] [] = refl
+reset-held (t ∷ ts) [] (c ∷ cs) = refl
+reset-held (t ∷ ts) (f ∷ fs) [] = refl
+reset-held (t ∷ ts) (f ∷ fs) (c ∷ cs) = rw (one f t c, reset-held ts fs cs)
+  where
+    one : (f : Bool) (t c : ℕ) → min t (cond f 0 c) ≡ cond f 0 (min t c)
+    one true t c = omega arith
+    one false t c = refl
+
+held-at : (ts cs : List ℕ) (k : ℕ) → k < length ts → getD (zipWith min ts cs) k 0 ≡ min (getD ts k 0) (getD cs k 0)
+unfolding zipWith
+held-at [] cs k h = absurd (omega arith)
+held-at (t ∷ ts) [] k h = zero-of (getD (t ∷ ts) k 0)
+  where
+    zero-of : (n : ℕ) → 0 ≡ min n 0
+    zero-of n = omega arith
+held-at (t ∷ ts) (c ∷ cs) zero h = refl
+held-at (t ∷ ts) (c ∷ cs) (suc k) h = held-at ts cs k (omega arith)
+
+-- ---- a sound pattern's ceilings
+
+number-at : (k : ℕ) → k < 4 → getD (0 ∷ 1 ∷ 2 ∷ 3 ∷ []) k 0 ≡ k
+number-at zero h = refl
+number-at (suc zero) h = refl
+number-at (suc (suc zero)) h = refl
+number-at (suc (suc (suc zero))) h = refl
+number-at (suc (suc (suc (suc k)))) h = absurd (omega arith)
+
+map-at : (f : ℕ → ℕ) (l : List ℕ) (k : ℕ) → k < length l → getD (map f l) k 0 ≡ f (getD l k 0)
+map-at f [] k h = absurd (omega arith)
+map-at f (x ∷ l) zero h = refl
+map-at f (x ∷ l) (suc k) h = map-at f l k (omega arith)
+
+module _ (p : Pattern) (sound : soundOf p ≡ true) where
+  -- the ceiling of a clock that the pattern has
+  ceiling-at : (k : ℕ) → k < p .clocks → getD (ceilings p) k 0 ≡ ceilingOf p k
+  unfolding radixOf
+  ceiling-at k h =
+      let few = parts p sound .fewClocks in
+      map-at (λ n. radixOf p n - 1) (0 ∷ 1 ∷ 2 ∷ 3 ∷ []) k (omega arith)
+      ∙ rw (number-at k (omega arith), lt-ltb k (p .clocks) h) (omega arith)
+
+  edge-of : (e : Edge) → List·Memᴰ e (edgesOf p) → edgeSound (p .clocks) (p .placecount) e ≡ true
+  edge-of e m = all-member (edgeSound (p .clocks) (p .placecount)) (edgesOf p) (parts p sound .edges .front) e m
+
+  known : (e : Edge) → List·Memᴰ e (edgesOf p) → (g : Guard) → List·Memᴰ g (guardsOf e) → g .clock < p .clocks
+  unfolding guardKnown
+  known e m g i =
+      let a = all-member (λ x. guardInRange x && guardKnown (p .clocks) x) (guardsOf e) (edge-parts (p .clocks) (p .placecount) e (edge-of e m) .guards .front) g i in
+      ltb-true _ _ (both (guardInRange g) (guardKnown (p .clocks) g) a .1)
+
+  guard-held : (e : Edge) → List·Memᴰ e (edgesOf p) → (g : Guard) → List·Memᴰ g (guardsOf e) → (cs : Clocks) → guardHolds (held p cs) g ≡ guardHolds cs g
+  unfolding held
+  guard-held e m g i cs =
+      let k = known e m g i in
+      let few = parts p sound .fewClocks in
+      let at : clockAt (held p cs) (g .clock) ≡ heldAt p (g .clock) (clockAt cs (g .clock)) =
+      held-at (ceilings p) cs (g .clock) (omega arith) ∙ rw (ceiling-at (g .clock) k) (omega arith) in
+      rw at (guards-see-held p g (in-flatMap guardsOf (edgesOf p) e g m i) (clockAt cs (g .clock)))
+
+pub ceilings-hold : CeilingsHold
+unfolding held guardsHold afterResets
+ceilings-hold p sound =
+    record {
+      of-zeros = zero-held (ceilings p);
+      of-tick = λ cs. tick-held (ceilings p) cs;
+      of-reset = λ e m cs. reset-held (ceilings p) (e .resets) cs;
+      of-holds = λ e m cs. all-same (guardHolds (held p cs)) (guardHolds cs) (guardsOf e) (λ g i. guard-held p sound e m g i cs);
+    }

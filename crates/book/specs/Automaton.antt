@@ -1,0 +1,33 @@
+-- A pattern as an automaton, and its clocks held at their ceilings.
+use Prim.Native.Nat.{ℕ, _-_, min}
+use mathlib.Core.List.{List, [], _∷_, map, zipWith}
+use Rattle.pattern.specs.declared.Edge.{Edge}
+use Rattle.pattern.specs.declared.Pattern.{Pattern}
+use Rattle.pattern.specs.InUse.{placeAt, edgesOf}
+use Rattle.pattern.specs.Kinds as kinds
+use Rattle.pattern.specs.Clocks.{Clocks, zeroClocks, later, guardsHold, afterResets}
+use Rattle.pattern.specs.Cells.{radixOf}
+use Rattle.walks.specs.Automaton.{Automaton}
+
+-- The pattern's places by number, its edges in use, and its clocks without any ceiling.
+abbrev pub automatonOf : Pattern → Automaton Clocks Edge
+automatonOf p =
+    record {
+      isStart = λ k. kinds.isStart (placeAt p k .kind);
+      isEnd = λ k. kinds.isEnd (placeAt p k .kind);
+      edges = edgesOf p;
+      source = λ e. e .from;
+      target = λ e. e .to;
+      zeros = zeroClocks;
+      tick = later 1;
+      holds = λ e cs. guardsHold cs e;
+      reset = afterResets;
+    }
+
+-- The ceilings of four clocks: a radix counts from 0 to the ceiling. A clock that the pattern lacks has ceiling 0.
+abbrev pub ceilings : Pattern → List ℕ
+ceilings p = map (λ k. radixOf p k - 1) (0 ∷ 1 ∷ 2 ∷ 3 ∷ [])
+
+-- "clocks are held at their ceiling"
+unfoldable pub held : Pattern → Clocks → Clocks
+held p cs = zipWith min (ceilings p) cs

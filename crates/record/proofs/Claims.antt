@@ -1,0 +1,111 @@
+-- The claims of specs/Claims.
+use Prim.Native.Nat.{ℕ, zero, suc, _+_, _≤_, _<_}
+use native.Mathlib.Omega.{arith}
+use mathlib.Core.Path.{_≡_, refl, sym, ap, subst, _∙_}
+use mathlib.Core.List.{List, [], _∷_, _++_, map, append-assoc}
+use mathlib.Core.Bool.{Bool, true, false, cond, not, _&&_}
+use borrow.Author.Tests.{eqb-true, eqb-false, not-true, ltb-true, ltb-false}
+use lib.Dec.{eqb, ltb}
+use lib.ListN.{length, set, getD, replicate, replicate-append-replicate}
+use lib.Seq.{set-out, getD-set-same, getD-set-other}
+use lib.IntN.{ℤ}
+use Rattle.integers.specs.Least.{minZ}
+use Rattle.integers.proofs.Least.{min-assoc, min-self}
+use Rattle.weighting.specs.declared.Weighing.the-variants.{Margin}
+use Rattle.weighting.specs.Weighting.{combineFrom}
+use Rattle.weighting.specs.Weightings.{margin}
+use Rattle.pattern.specs.declared.Kind.{Kind}
+use Rattle.pattern.specs.declared.Place.{Place}
+use Rattle.pattern.specs.declared.Pattern.{Pattern}
+use Rattle.pattern.specs.Sound.{noPlace}
+use Rattle.pattern.specs.Slots.{all}
+use Rattle.pattern.specs.Kinds.{isStart, isEnd}
+use Rattle.pattern.specs.Clocks.{Clocks, zeroClocks}
+use Rattle.pattern.specs.InUse.{placeAt, edgeAt}
+use Rattle.pattern.specs.Distance.{Sample, placeWorth}
+use Rattle.pattern.proofs.SoundLaws.{both}
+use Rattle.record.specs.Record.{Piece, Book, ticksOf}
+use Rattle.record.specs.Joined.{sameSample, absorb, joined}
+use Rattle.record.specs.Run.{Step, canStep, clocksAfter, goes, isRun, lengthOf}
+use Rattle.record.specs.Worth.{stayWorth, stayWorths, runWorth, priceOf}
+use Rattle.record.specs.Claims.{CutsDoNotMatter, MarginCountsTicks, EndPlaceIsSilent, withPlace}
+use Rattle.record.proofs.JoinedLaws.{same-true}
+
+-- ---- cuts
+
+pub cut-ticks : (before after : List Piece) (m n : ℕ) (s : Sample)
+    → ticksOf (before ++ record { duration = m + n; sample = s } ∷ after)
+    ≡ ticksOf (before ++ record { duration = m; sample = s } ∷ record { duration = n; sample = s } ∷ after)
+unfolding ticksOf
+cut-ticks [] after m n s =
+    rw (← replicate-append-replicate m n s) (append-assoc (replicate m s) (replicate n s) (ticksOf after))
+cut-ticks (x ∷ before) after m n s = ap (_++_ (replicate (x .duration) (x .sample))) (cut-ticks before after m n s)
+
+pub cuts-do-not-matter : CutsDoNotMatter
+cuts-do-not-matter p before after m n s begin xs = ap (λ (b : Book). priceOf p b begin xs) (cut-ticks before after m n s)
+
+-- ---- margin
+
+module _ (l : Place) where
+  absorbed : (a : ℤ) (x : Sample) (ys : List Sample)
+      → combineFrom margin a (map (placeWorth Margin l) (absorb x ys)) ≡ combineFrom margin (minZ a (placeWorth Margin l x)) (map (placeWorth Margin l) ys)
+  unfolding absorb combineFrom
+  absorbed a x [] = refl
+  absorbed a x (y ∷ ys) = by (sameSample x y) refl
+    where
+      f : Sample → ℤ
+      f = placeWorth Margin l
+
+      by : (t : Bool) → sameSample x y ≡ t → combineFrom margin a (map (placeWorth Margin l) (cond t (y ∷ ys) (x ∷ y ∷ ys))) ≡ combineFrom margin (minZ (minZ a (placeWorth Margin l x)) (placeWorth Margin l y)) (map (placeWorth Margin l) ys)
+      by true e =
+          let s = same-true x y e in
+          rw (min-assoc a (placeWorth Margin l x) (placeWorth Margin l y), s, min-self (placeWorth Margin l y))
+      by false e = refl
+
+  pub margin-from : (a : ℤ) (b : Book) → combineFrom margin a (map (placeWorth Margin l) (joined b)) ≡ combineFrom margin a (map (placeWorth Margin l) b)
+  unfolding joined combineFrom
+  margin-from a [] = refl
+  margin-from a (x ∷ b) = absorbed a x (joined b) ∙ margin-from (minZ a (placeWorth Margin l x)) b
+
+pub margin-counts-ticks : MarginCountsTicks
+margin-counts-ticks l b = margin-from l (margin .unit) b
+
+-- ---- the end place
+
+module _ (p : Pattern) (k : ℕ) (l : Place) where
+  other : (j : ℕ) → (j ≡ k → ⊥) → placeAt (withPlace p k l) j ≡ placeAt p j
+  other j h = getD-set-other (p .places) k j l noPlace h
+
+  module _ (h : l .kind ≡ placeAt p k .kind) where
+    kind-at : (j : ℕ) → placeAt (withPlace p k l) j .kind ≡ placeAt p j .kind
+    kind-at j = by (eqb j k) refl
+      where
+        there : (t : Bool) → ltb k (length (p .places)) ≡ t → placeAt (withPlace p k l) k .kind ≡ placeAt p k .kind
+        there true e = ap (λ (x : Place). x .kind) (getD-set-same (p .places) k l noPlace (ltb-true k (length (p .places)) e)) ∙ h
+        there false e = ap (λ (x : List Place). getD x k noPlace .kind) (set-out (p .places) k l (ltb-false k (length (p .places)) e))
+
+        by : (t : Bool) → eqb j k ≡ t → placeAt (withPlace p k l) j .kind ≡ placeAt p j .kind
+        by true e = subst (λ (i : ℕ). placeAt (withPlace p k l) i .kind ≡ placeAt p i .kind) (sym (eqb-true j k e)) (there (ltb k (length (p .places))) refl)
+        by false e = ap (λ (x : Place). x .kind) (other j (eqb-false j k e))
+
+    goes-same : (j : ℕ) (cs : Clocks) (xs : List Step) → goes (withPlace p k l) j cs xs ≡ goes p j cs xs
+    unfolding goes canStep
+    goes-same j cs [] = ap isEnd (kind-at j)
+    goes-same j cs (x ∷ xs) = ap (_&&_ (canStep p j cs x)) (goes-same (edgeAt p (x .edge) .to) (clocksAfter p cs x) xs)
+
+    run-same : (xs : List Step) → isRun (withPlace p k l) xs ≡ isRun p xs
+    unfolding isRun
+    run-same [] = refl
+    run-same (x ∷ xs) = rw (kind-at (edgeAt p (x .edge) .from), goes-same (edgeAt p (x .edge) .from) zeroClocks (x ∷ xs))
+
+  worths-same : (b : Book) (t : ℕ) (xs : List Step) → all (λ x. not (eqb (edgeAt p (x .edge) .from) k)) xs ≡ true
+      → stayWorths (withPlace p k l) b t xs ≡ stayWorths p b t xs
+  unfolding stayWorths stayWorth
+  worths-same b t [] e = refl
+  worths-same b t (x ∷ xs) e =
+      let h = both _ _ e in
+      rw (other (edgeAt p (x .edge) .from) (eqb-false _ _ (not-true _ (h .0))), worths-same b (t + x .stay) xs (h .1))
+
+pub end-place-is-silent : EndPlaceIsSilent
+unfolding priceOf runWorth
+end-place-is-silent p b begin xs k l h e = rw (run-same p k l h xs, worths-same p k l b begin xs e)

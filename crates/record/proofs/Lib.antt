@@ -1,0 +1,5 @@
+-- Laws of joining and of books; the claims of specs/Claims; what pricing rests on.
+pub mod JoinedLaws
+pub mod RecordLaws
+pub mod WalkLaws
+pub mod Claims

@@ -1,0 +1,30 @@
+-- Cutting the ticks into calls changes nothing; only the ticks passed matter, and only the cells.
+use mathlib.Core.Path.{_≡_, fun-ext}
+use mathlib.Core.List.{List}
+use Prim.Native.Nat.{ℕ, zero, suc, _+_}
+use native.Mathlib.Omega.{arith}
+use Rattle.weighting.specs.Weighting.{Weighting}
+use Rattle.walks.specs.Automaton.{Automaton, State, Same}
+use Rattle.walks.specs.Tables.{next, tableAt}
+use Rattle.walks.specs.Claims.{Cut, OnlyPassed, OnlyCells}
+use Rattle.walks.proofs.Rows.{only-shorter}
+
+module _ {W C E : Type 0} (𝓦 : Weighting W) (A : Automaton C E) (Q : Same C) (high : ℕ) (all : List (State C)) where
+  pub cut : Cut 𝓦 A Q high all
+  cut 𝓥 𝓥′ T₀ m zero h = let e : m + 0 ≡ m = omega arith in rw e
+  cut 𝓥 𝓥′ T₀ m (suc n) h =
+      let e : m + suc n ≡ suc (m + n) = omega arith in
+      let v : 𝓥 (m + n) ≡ 𝓥′ n = fun-ext (λ f. fun-ext (λ p. h n f p (omega arith))) in
+      let k = cut 𝓥 𝓥′ T₀ m n (λ t f p l. h t f p (omega arith)) in
+      rw e (λ i. next 𝓦 A Q high all (v i) (k i))
+
+  pub only-passed : OnlyPassed 𝓦 A Q high all
+  only-passed 𝓥 𝓥′ T₀ n h =
+      let e : (t : ℕ) → 0 + t ≡ t = λ t. omega arith in
+      rw (e n) at (cut 𝓥 𝓥′ T₀ 0 n (λ t f p l. rw (e t) (h t f p l)))
+
+  pub only-cells : OnlyCells 𝓦 A Q high all
+  only-cells 𝓥 T₀ T₁ h zero s m = h s m
+  only-cells 𝓥 T₀ T₁ h (suc n) s m =
+      only-shorter 𝓦 A Q high all (𝓥 n) s (tableAt 𝓦 A Q high all 𝓥 T₀ n) (tableAt 𝓦 A Q high all 𝓥 T₁ n)
+      (λ y i _. only-cells 𝓥 T₀ T₁ h n y i)

@@ -1,0 +1,102 @@
+-- What a table reports: the best of what is reached where a run may end, the shortest among equals. From any table.
+use mathlib.Core.Path.{_≡_, refl, sym, ap, subst, _∙_}
+use mathlib.Core.Option.{Option, none, some}
+use mathlib.Core.Logic.{⊎-elim}
+use mathlib.Core.List.{List, [], _∷_, List·Memᴰ, List·Memᴰ·head, List·Memᴰ·tail, List·Memᴰ·cases-cons, List·Memᴰ·not-nil, List·Memᴰ·eq-of-singleton, List·Memᴰ·append-cases, Memᴰ·append-left, Memᴰ·append-right}
+use Prim.Native.Nat.{ℕ}
+use native.Mathlib.Omega.{arith}
+use lib.Dec.{T}
+use Rattle.weighting.specs.Order.{IsBest}
+use Rattle.weighting.specs.Weighting.{Weighting}
+use Rattle.weighting.proofs.Best.{IsBest-more, bestOf-best}
+use Rattle.weighting.proofs.Shortest.{shortest, shortest-in}
+use Rattle.walks.specs.Automaton.{Automaton, View, State, Same}
+use Rattle.walks.specs.Walks.{Reach}
+use Rattle.walks.specs.Tables.{Table, tableAt, Closed, Within}
+use Rattle.walks.specs.Reports.{ending, entry, entries, report}
+use Rattle.walks.proofs.Tests.{of-cond, in-cond}
+use Rattle.walks.proofs.TableBest.{reach-in, table-best}
+
+-- r is the worth and the length of a cell of ss at which a run may end
+pub record Entered {W C E : Type 0} (A : Automaton C E) (low : ℕ) (U : Table W C) (ss : List (State C)) (r : W × ℕ) : Type 0 where
+  pub cell : State C
+  pub is-cell : List·Memᴰ cell ss
+  pub ends : T (ending A low cell)
+  pub holds : U cell ≡ some (r .0)
+  pub len-is : cell .len ≡ r .1
+
+module _ {W C E : Type 0} (A : Automaton C E) (low : ℕ) (U : Table W C) where
+  of-entry : (s : State C) (ss : List (State C)) (r : W × ℕ) (o : Option W) → U s ≡ o → List·Memᴰ r (entry s o (ending A low s)) → Entered A low U (s ∷ ss) r
+  of-entry s ss r none e m = absurd (List·Memᴰ·not-nil m)
+  of-entry s ss r (some w) e m =
+      let k = of-cond (ending A low s) ((w, s .len) ∷ []) m in
+      let p : r ≡ (w, s .len) = List·Memᴰ·eq-of-singleton (k .1) in
+      record {
+        cell = s;
+        is-cell = List·Memᴰ·head refl;
+        ends = k .0;
+        holds = e ∙ ap some (sym (ap (λ (q : W × ℕ). q .0) p));
+        len-is = sym (ap (λ (q : W × ℕ). q .1) p);
+      }
+
+  one-more : {s : State C} {ss : List (State C)} {r : W × ℕ} → Entered A low U ss r → Entered A low U (s ∷ ss) r
+  one-more o =
+      record { cell = o .cell; is-cell = List·Memᴰ·tail (o .is-cell); ends = o .ends; holds = o .holds; len-is = o .len-is }
+
+  pub of-entries : (ss : List (State C)) (r : W × ℕ) → List·Memᴰ r (entries A low U ss) → Entered A low U ss r
+  unfolding entries
+  of-entries [] r m = absurd (List·Memᴰ·not-nil m)
+  of-entries (s ∷ ss) r m =
+      ⊎-elim (of-entry s ss r (U s) refl) (λ k. one-more (of-entries ss r k)) (List·Memᴰ·append-cases (entry s (U s) (ending A low s)) m)
+
+  to-entry : (s : State C) (w : W) → U s ≡ some w → T (ending A low s) → List·Memᴰ (w, s .len) (entry s (U s) (ending A low s))
+  to-entry s w e h = rw e (in-cond (ending A low s) ((w, s .len) ∷ []) h (List·Memᴰ·head refl))
+
+  pub to-entries : (s : State C) (w : W) (ss : List (State C)) → List·Memᴰ s ss → T (ending A low s) → U s ≡ some w → List·Memᴰ (w, s .len) (entries A low U ss)
+  unfolding entries
+  to-entries s w [] m h e = absurd (List·Memᴰ·not-nil m)
+  to-entries s w (x ∷ ss) m h e =
+      ⊎-elim
+      (λ (p : s ≡ x).
+      Memᴰ·append-left (entries A low U ss)
+      (subst (λ (y : State C). List·Memᴰ (w, s .len) (entry y (U y) (ending A low y))) p (to-entry s w e h)))
+      (λ k. Memᴰ·append-right (entry x (U x) (ending A low x)) (to-entries s w ss k h e))
+      (List·Memᴰ·cases-cons m)
+
+-- n ticks after T₀ a state is reached in which a run may end, with this worth and length
+pub record Ends {W C E : Type 0} (𝓦 : Weighting W) (A : Automaton C E) (𝓥 : View W) (high : ℕ) (T₀ : Table W C) (low n : ℕ) (r : W × ℕ) : Type 0 where
+  pub there : State C
+  pub may-end : T (ending A low there)
+  pub len-is : there .len ≡ r .1
+  pub reached : Reach 𝓦 A 𝓥 high T₀ n there (r .0)
+
+module _ {W C E : Type 0} (𝓦 : Weighting W) (A : Automaton C E) (Q : Same C) (𝓥 : View W) (high : ℕ) (all : List (State C)) (closed : Closed A high all) (T₀ : Table W C) (within : Within all T₀) (low n : ℕ) where
+  abbrev U : Table W C
+  U = tableAt 𝓦 A Q high all 𝓥 T₀ n
+
+  cell-best : (s : State C) → IsBest (𝓦 .order) (Reach 𝓦 A 𝓥 high T₀ n s) (U s)
+  cell-best s = table-best 𝓦 A Q 𝓥 high all closed T₀ within n s
+
+  entry-ends : (r : W × ℕ) → Entered A low U all r → Ends 𝓦 A 𝓥 high T₀ low n r
+  entry-ends r k =
+      let b : IsBest (𝓦 .order) (Reach 𝓦 A 𝓥 high T₀ n (k .cell)) (some (r .0)) = rw (k .holds) at (cell-best (k .cell)) in
+      record { there = k .cell; may-end = k .ends; len-is = k .len-is; reached = b .0 }
+
+  ends-entry : (r : W × ℕ) → Ends 𝓦 A 𝓥 high T₀ low n r → (q : W × ℕ) × List·Memᴰ q (entries A low U all) × T (shortest (𝓦 .order) .atLeast q r)
+  ends-entry r k = go (U (k .there)) refl (cell-best (k .there))
+    where
+      go : (o : Option W) → U (k .there) ≡ o → IsBest (𝓦 .order) (Reach 𝓦 A 𝓥 high T₀ n (k .there)) o → (q : W × ℕ) × List·Memᴰ q (entries A low U all) × T (shortest (𝓦 .order) .atLeast q r)
+      go none e h = absurd (h (r .0) (k .reached))
+      go (some w) e h = (
+        (w, k .there .len),
+        to-entries A low U (k .there) w all (reach-in 𝓦 A Q high all closed 𝓥 T₀ within (k .reached)) (k .may-end) e,
+        shortest-in (𝓦 .order) (w, k .there .len) r (h .1 (r .0) (k .reached), λ _. omega (arith, k .len-is)),
+      )
+
+  pub report-best : IsBest (shortest (𝓦 .order)) (Ends 𝓦 A 𝓥 high T₀ low n) (report 𝓦 A low all U)
+  unfolding report
+  report-best =
+      IsBest-more (shortest (𝓦 .order))
+      (λ r m. entry-ends r (of-entries A low U all r m))
+      ends-entry
+      (report 𝓦 A low all U) (bestOf-best (shortest (𝓦 .order)) (entries A low U all))
