@@ -49,7 +49,7 @@ reset-held (t ∷ ts) (f ∷ fs) (c ∷ cs) = rw (one f t c, reset-held ts fs cs
     one true t c = omega arith
     one false t c = refl
 
-held-at : (ts cs : List ℕ) (k : ℕ) → k < length ts → getD (zipWith min ts cs) k 0 ≡ min (getD ts k 0) (getD cs k 0)
+pub held-at : (ts cs : List ℕ) (k : ℕ) → k < length ts → getD (zipWith min ts cs) k 0 ≡ min (getD ts k 0) (getD cs k 0)
 unfolding zipWith
 held-at [] cs k h = absurd (omega arith)
 held-at (t ∷ ts) [] k h = zero-of (getD (t ∷ ts) k 0)

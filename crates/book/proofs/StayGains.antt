@@ -23,9 +23,8 @@ use Rattle.pattern.specs.declared.Pattern.{Pattern}
 use Rattle.pattern.specs.InUse.{placeAt}
 use Rattle.pattern.specs.Distance.{Sample, distancesOf, placeWorth}
 use Rattle.record.specs.Record.{Book}
-use Rattle.record.specs.Joined.{sameSample, joined, observed}
+use Rattle.record.specs.Joined.{sameSample, joined, observed, freshAfter}
 use Rattle.record.specs.Worth.{stayWorth}
-use Rattle.record.specs.Walk.{freshAfter}
 use Rattle.record.proofs.JoinedLaws.{same-self, same-true, joined-fresh}
 use Rattle.record.proofs.Claims.{margin-counts-ticks}
 use Rattle.walks.specs.Runs.{stayGains, consIf, together}

@@ -2,7 +2,7 @@
 use Prim.Native.Nat.{ℕ, _≤_, _<_}
 use mathlib.Core.Path.{_≡_, refl}
 use mathlib.Core.List.{List, [], _∷_}
-use mathlib.Core.Bool.{Bool, true, false, _&&_}
+use mathlib.Core.Bool.{Bool, true, false, not, _&&_}
 use native.Mathlib.Omega.{arith}
 use borrow.Author.Tests.{eqb-true, leb-true, ltb-true}
 use lib.Dec.{eqb, leb, ltb}
@@ -75,6 +75,7 @@ pub record EdgeParts (clocks places : ℕ) (e : Edge) : Type 0 where
   pub fromPlace : e .from < places
   pub toPlace : e .to < places
   pub guards : Slotted (λ g. guardInRange g && guardKnown clocks g) guardUnused 4 (e .count) (e .guards)
+  pub resets : Slotted anything not 4 clocks (e .resets)
 
 pub edge-parts : (clocks places : ℕ) (e : Edge) → edgeSound clocks places e ≡ true → EdgeParts clocks places e
 unfolding edgeSound
@@ -82,4 +83,4 @@ edge-parts clocks places e h =
     let a = both _ _ h in
     let b = both _ _ (a .0) in
     let c = both _ _ (b .0) in
-    record { fromPlace = ltb-true _ _ (c .0); toPlace = ltb-true _ _ (c .1); guards = slotted (b .1) }
+    record { fromPlace = ltb-true _ _ (c .0); toPlace = ltb-true _ _ (c .1); guards = slotted (b .1); resets = slotted (a .1) }

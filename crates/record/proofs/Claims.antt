@@ -28,8 +28,8 @@ use Rattle.record.specs.Record.{Piece, Book, ticksOf}
 use Rattle.record.specs.Joined.{sameSample, absorb, joined}
 use Rattle.record.specs.Run.{Step, canStep, clocksAfter, goes, isRun, lengthOf}
 use Rattle.record.specs.Worth.{stayWorth, stayWorths, runWorth, priceOf}
-use Rattle.record.specs.Claims.{CutsDoNotMatter, MarginCountsTicks, EndPlaceIsSilent, withPlace}
-use Rattle.record.proofs.JoinedLaws.{same-true}
+use Rattle.record.specs.Claims.{CutsDoNotMatter, ObservedInOrder, MarginCountsTicks, EndPlaceIsSilent, withPlace}
+use Rattle.record.proofs.JoinedLaws.{same-true, joined-fresh}
 
 -- ---- cuts
 
@@ -43,6 +43,11 @@ cut-ticks (x ∷ before) after m n s = ap (_++_ (replicate (x .duration) (x .sam
 
 pub cuts-do-not-matter : CutsDoNotMatter
 cuts-do-not-matter p before after m n s begin xs = ap (λ (b : Book). priceOf p b begin xs) (cut-ticks before after m n s)
+
+-- ---- tick by tick
+
+pub observed-in-order : ObservedInOrder
+observed-in-order x b = joined-fresh x b
 
 -- ---- margin
 

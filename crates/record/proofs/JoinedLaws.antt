@@ -3,7 +3,6 @@ use Prim.Native.Nat.{ℕ, zero, suc, _+_}
 use native.Mathlib.Omega.{arith}
 use mathlib.Core.Path.{_≡_, refl, sym, ap, subst, _∙_}
 use mathlib.Core.List.{List, [], _∷_, _++_}
-use mathlib.Core.Option.{Option, none, some}
 use mathlib.Core.Bool.{Bool, true, false, cond, _&&_, and-assoc}
 use lib.ListN.{length, replicate}
 use lib.IntN.{ℤ}
@@ -12,8 +11,7 @@ use Rattle.integers.proofs.Equal.{eq-self, eq-true}
 use Rattle.pattern.specs.Distance.{Sample}
 use Rattle.pattern.proofs.SoundLaws.{both}
 use Rattle.record.specs.Record.{Book}
-use Rattle.record.specs.Joined.{sameSample, absorb, joined}
-use Rattle.record.specs.Walk.{freshAfter, newTo, joinsTo}
+use Rattle.record.specs.Joined.{sameSample, absorb, joined, freshAfter}
 
 -- ---- equal samples
 
@@ -64,17 +62,6 @@ pub fresh-same : (m : ℕ) (x : Sample) (b : Book) → freshAfter x (replicate m
 unfolding freshAfter
 fresh-same zero x b = refl
 fresh-same (suc m) x b = rw (same-self x) (fresh-same m x b)
-
-pub new-nothing : (o : Option Sample) → newTo o [] ≡ []
-unfolding newTo joined freshAfter
-new-nothing none = refl
-new-nothing (some p) = refl
-
--- a stretch of equal samples is one observation, or none where it joins the one before
-pub new-stretch : (o : Option Sample) (m : ℕ) (x : Sample) (b : Book) → newTo o (replicate (suc m) x ++ b) ≡ cond (joinsTo o x) (newTo (some x) b) (x ∷ newTo (some x) b)
-unfolding newTo joinsTo freshAfter
-new-stretch none m x b = joined-fresh x (replicate m x ++ b) ∙ ap (_∷_ x) (fresh-same m x b)
-new-stretch (some p) m x b = rw (fresh-same m x b)
 
 -- ticks of one sample are one observation
 pub joined-stretch : (n : ℕ) (x : Sample) (b : Book) → joined (replicate (suc n) x ++ b) ≡ joined (x ∷ b)

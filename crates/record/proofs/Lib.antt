@@ -1,5 +1,6 @@
--- Laws of joining and of books; the claims of specs/Claims; what pricing rests on.
+-- Laws of lists, of joining, of records and of a place's worth; the claims of specs/Claims.
+pub mod ListLaws
 pub mod JoinedLaws
 pub mod RecordLaws
-pub mod WalkLaws
+pub mod PlaceLaws
 pub mod Claims

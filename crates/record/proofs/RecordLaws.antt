@@ -1,22 +1,21 @@
--- Laws of a record's lists: totals; what a sound record has; its pieces from the middle on.
+-- Laws of a record: totals; what a sound record has; its pieces, and the part from a piece on.
 use Prim.Native.Nat.{ℕ, zero, suc, _+_, _-_, _*_, _≤_, _<_}
-use native.Mathlib.Nat.{suc-mul, zero-mul, mul-le-mul-right}
-use native.Mathlib.Numerals.{add-one}
+use native.Mathlib.Nat.{suc-mul, zero-mul, add-mul, mul-le-mul-right}
 use native.Mathlib.Omega.{arith}
-use mathlib.Core.Path.{_≡_, refl, sym, ap, subst, _∙_}
+use mathlib.Core.Path.{_≡_, refl, sym, ap, _∙_}
 use mathlib.Core.List.{List, [], _∷_, _++_}
-use mathlib.Core.Bool.{Bool, true, false, _&&_}
-use borrow.Author.Tests.{eqb-true, leb-true}
-use lib.Dec.{leb}
-use lib.ListN.{length, take, drop, getD, replicate, length-append, length-replicate, drop-of-length-le}
-use lib.Seq.{drop-nil, drop-append-le, drop-drop, drop-at, take-append-le}
+use mathlib.Core.Bool.{Bool, true, false}
+use borrow.Author.Tests.{eqb-true, eq-eqb, leb-true, le-leb, ltb-true, ltb-false}
+use lib.Dec.{eqb, leb, ltb}
+use lib.ListN.{length, take, drop, getD, replicate, length-append, length-replicate, length-drop}
+use lib.Seq.{drop-drop, drop-append-add, take-all}
 use lib.IntN.{ℤ}
 use Rattle.pattern.specs.Slots.{all}
 use Rattle.pattern.specs.Distance.{Sample}
 use Rattle.pattern.proofs.ListLaws.{take-more}
 use Rattle.pattern.proofs.SoundLaws.{both}
-use Rattle.record.specs.Record.{Piece, Book, ticksOf, piecesOf, total, valueInRange, recordSound}
-use Rattle.record.specs.Walk.{sampleAt, ahead}
+use Rattle.record.specs.Record.{ticksOf, piecesOf, sampleAt, total, valueInRange, recordSound}
+use Rattle.record.proofs.ListLaws.{all-drop}
 
 -- ---- totals
 
@@ -31,40 +30,13 @@ unfolding total
 total-more ds i h =
     rw (take-more i ds 0 h) (total-append (take i ds) (getD ds i 0 ∷ []) ∙ omega arith)
 
--- ---- lists
-
-module _ {A : Type 0} where
-  pub all-take : (f : A → Bool) (n : ℕ) (xs : List A) → all f xs ≡ true → all f (take n xs) ≡ true
-  all-take f zero xs e = refl
-  all-take f (suc n) [] e = refl
-  all-take f (suc n) (x ∷ xs) e = let h = both (f x) (all f xs) e in rw (h .0, all-take f n xs (h .1))
-
-  pub all-drop : (f : A → Bool) (n : ℕ) (xs : List A) → all f xs ≡ true → all f (drop n xs) ≡ true
-  all-drop f zero xs e = e
-  all-drop f (suc n) [] e = refl
-  all-drop f (suc n) (x ∷ xs) e = all-drop f n xs (both (f x) (all f xs) e .1)
-
-  -- what all of a list pass, each in it passes
-  pub all-at : (f : A → Bool) (xs : List A) (i : ℕ) (d : A) → all f xs ≡ true → i < length xs → f (getD xs i d) ≡ true
-  all-at f [] i d e h = absurd (omega arith)
-  all-at f (x ∷ xs) zero d e h = both (f x) (all f xs) e .0
-  all-at f (x ∷ xs) (suc i) d e h = all-at f xs i d (both (f x) (all f xs) e .1) (omega arith)
-
-  pub getD-any : (xs : List A) (i : ℕ) (a b : A) → i < length xs → getD xs i a ≡ getD xs i b
-  getD-any [] i a b h = absurd (omega arith)
-  getD-any (x ∷ xs) zero a b h = refl
-  getD-any (x ∷ xs) (suc i) a b h = getD-any xs i a b (omega arith)
-
-  pub drop-replicate : (u d : ℕ) (a : A) → u ≤ d → drop u (replicate d a) ≡ replicate (d - u) a
-  drop-replicate zero d a h = let e : d - 0 ≡ d = omega arith in rw e
-  drop-replicate (suc u) zero a h = absurd (omega arith)
-  drop-replicate (suc u) (suc d) a h =
-      let e : suc d - suc u ≡ d - u = omega arith in rw e (drop-replicate u d a (omega arith))
-
-  pub take-replicate : (m d : ℕ) (a : A) → m ≤ d → take m (replicate d a) ≡ replicate m a
-  take-replicate zero d a h = refl
-  take-replicate (suc m) zero a h = absurd (omega arith)
-  take-replicate (suc m) (suc d) a h = ap (_∷_ a) (take-replicate m d a (omega arith))
+-- a time before the end lies in a piece
+pub before-end : (ds : List ℕ) (begin i u : ℕ) → begin < total ds → begin ≡ total (take i ds) + u → i < length ds
+before-end ds begin i u h e = by (ltb i (length ds)) refl
+  where
+    by : (t : Bool) → ltb i (length ds) ≡ t → i < length ds
+    by true k = ltb-true i (length ds) k
+    by false k = let a = ap total (take-all i ds (ltb-false i (length ds) k)) in absurd (omega arith)
 
 -- ---- places of samples among the values
 
@@ -139,50 +111,35 @@ module _ (n : ℕ) where
       shift : n + i * n ≡ suc i * n
       shift = omega (arith, suc-mul i n)
 
-module _ (n : ℕ) (ds : List ℕ) (vs : List ℤ) where
-  -- the ticks ahead: those of the piece, and then those from the next piece on
-  pub ahead-piece : (i u : ℕ) → i < length ds → u ≤ getD ds i 0
-      → ahead n ds vs i u ≡ replicate (getD ds i 0 - u) (sampleAt n vs i) ++ ahead n ds vs (suc i) 0
-  unfolding ahead ticksOf
-  ahead-piece i u h k =
-      let d = getD ds i 0 in
-      let s = sampleAt n vs i in
-      let t = ticksOf (drop (suc i) (piecesOf n ds vs)) in
-      rw (piece-at n i ds vs h)
-      (drop-append-le u (replicate d s) t (let e = length-replicate d s in omega arith)
-      ∙ ap (λ (b : Book). b ++ t) (drop-replicate u d s k))
+-- ---- the part of a record from a piece on
 
-  pub ahead-on : (i u m : ℕ) → drop m (ahead n ds vs i u) ≡ ahead n ds vs i (u + m)
-  unfolding ahead
-  ahead-on i u m = drop-drop m u (ticksOf (drop i (piecesOf n ds vs)))
+total-drop : (i : ℕ) (ds : List ℕ) → total (drop i ds) ≤ total ds
+unfolding total
+total-drop zero ds = omega arith
+total-drop (suc i) [] = omega arith
+total-drop (suc i) (d ∷ ds) = omega (arith, total-drop i ds)
 
-  pub ahead-next : (i u : ℕ) → i < length ds → u ≤ getD ds i 0
-      → drop (getD ds i 0 - u) (ahead n ds vs i u) ≡ ahead n ds vs (suc i) 0
-  ahead-next i u h k =
-      rw (ahead-piece i u h k)
-      (drop-at (replicate (getD ds i 0 - u) (sampleAt n vs i)) (ahead n ds vs (suc i) 0) (getD ds i 0 - u) (length-replicate (getD ds i 0 - u) (sampleAt n vs i)))
+pub part-sound : (n i : ℕ) (ds : List ℕ) (vs : List ℤ) → recordSound n ds vs ≡ true → i ≤ length ds → recordSound n (drop i ds) (drop (i * n) vs) ≡ true
+unfolding recordSound
+part-sound n i ds vs e h =
+    let k = parts n ds vs e in
+    let g = k .agree in
+    let f = k .few in
+    let r : i + (length ds - i) ≡ length ds = omega arith in
+    let m : i * n + (length ds - i) * n ≡ length ds * n = sym (add-mul i (length ds - i) n) ∙ ap (λ (j : ℕ). j * n) r in
+    let few : leb (length (drop i ds)) 4096 ≡ true = le-leb (length (drop i ds)) 4096 (omega (arith, length-drop i ds)) in
+    let short : leb (total (drop i ds)) 2147483647 ≡ true = le-leb (total (drop i ds)) 2147483647 (let s = k .short in omega (arith, total-drop i ds)) in
+    let rest : length (drop (i * n) vs) ≡ length (drop i ds) * n = rw (length-drop (i * n) vs, length-drop i ds) (omega arith) in
+    let agree : eqb (length (drop (i * n) vs)) (length (drop i ds) * n) ≡ true = eq-eqb (length (drop (i * n) vs)) (length (drop i ds) * n) rest in
+    rw (few, all-drop (leb 1) i ds (k .lasting), short, all-drop valueInRange (i * n) vs (k .values), agree)
 
-  -- the first ticks ahead are the piece's
-  pub ahead-take : (i u m : ℕ) → i < length ds → u ≤ getD ds i 0 → m ≤ getD ds i 0 - u
-      → take m (ahead n ds vs i u) ≡ replicate m (sampleAt n vs i)
-  ahead-take i u m h k l =
-      let d = getD ds i 0 - u in
-      let s = sampleAt n vs i in
-      rw (ahead-piece i u h k)
-      (take-append-le m (replicate d s) (ahead n ds vs (suc i) 0) (let e = length-replicate d s in omega arith)
-      ∙ take-replicate m d s l)
-
-  pub ahead-length : (i u : ℕ) → i < length ds → u ≤ getD ds i 0
-      → length (ahead n ds vs i u) ≡ (getD ds i 0 - u) + length (ahead n ds vs (suc i) 0)
-  ahead-length i u h k =
-      let d = getD ds i 0 - u in
-      let s = sampleAt n vs i in
-      ap length (ahead-piece i u h k)
-      ∙ length-append (replicate d s) (ahead n ds vs (suc i) 0)
-      ∙ ap (λ (m : ℕ). m + length (ahead n ds vs (suc i) 0)) (length-replicate d s)
-
-  -- past the last piece there are no ticks
-  pub ahead-none : (i u : ℕ) → length ds ≤ i → ahead n ds vs i u ≡ []
-  unfolding ahead ticksOf piecesOf
-  ahead-none i u h =
-      rw (drop-pieces n i ds vs, drop-of-length-le ds {i = i} h) (drop-nil u)
+pub ticks-from : (n i : ℕ) (ds : List ℕ) (vs : List ℤ) → i ≤ length ds → drop (total (take i ds)) (ticksOf (piecesOf n ds vs)) ≡ ticksOf (drop i (piecesOf n ds vs))
+unfolding total ticksOf piecesOf
+ticks-from n zero ds vs h = refl
+ticks-from n (suc i) [] vs h = absurd (omega arith)
+ticks-from n (suc i) (d ∷ ds) vs h =
+    let s = take n vs in
+    let t = ticksOf (piecesOf n ds (drop n vs)) in
+    ap (λ (k : ℕ). drop (k + total (take i ds)) (replicate d s ++ t)) (sym (length-replicate d s))
+    ∙ drop-append-add (replicate d s) t (total (take i ds))
+    ∙ ticks-from n i ds (drop n vs) (omega arith)

@@ -15,7 +15,7 @@ use Rattle.pattern.specs.Slots.{all}
 use Rattle.pattern.specs.InUse.{placeAt, edgeAt}
 use Rattle.pattern.specs.Distance.{Sample, placeWorth}
 use Rattle.record.specs.Record.{Piece, Book, ticksOf}
-use Rattle.record.specs.Joined.{joined}
+use Rattle.record.specs.Joined.{joined, freshAfter}
 use Rattle.record.specs.Run.{Step, lengthOf}
 use Rattle.record.specs.Worth.{priceOf}
 
@@ -25,6 +25,10 @@ CutsDoNotMatter =
     (p : Pattern) (before after : List Piece) (m n : ℕ) (s : Sample) (begin : ℕ) (xs : List Step)
     → priceOf p (ticksOf (before ++ record { duration = m + n; sample = s } ∷ after)) begin xs
     ≡ priceOf p (ticksOf (before ++ record { duration = m; sample = s } ∷ record { duration = n; sample = s } ∷ after)) begin xs
+
+-- Joining seen tick by tick: the first sample, and then each that differs from the one before.
+abbrev pub ObservedInOrder : Type 0
+ObservedInOrder = (x : Sample) (b : Book) → joined (x ∷ b) ≡ x ∷ freshAfter x b
 
 -- In margin, an observation counted once or at every tick comes to the same.
 abbrev pub MarginCountsTicks : Type 0

@@ -29,3 +29,8 @@ joined (x ∷ b) = absorb x (joined b)
 -- transition).
 unfoldable pub observed : Book → (t n : ℕ) → List Sample
 observed b t n = joined (take n (drop t b))
+
+-- What ticks bring that is new after an observation of p, tick by tick: the samples that differ from the one before.
+unfoldable pub freshAfter : Sample → Book → List Sample
+freshAfter p [] = []
+freshAfter p (x ∷ b) = cond (sameSample p x) (freshAfter x b) (x ∷ freshAfter x b)

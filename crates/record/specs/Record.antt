@@ -28,6 +28,10 @@ unfoldable pub piecesOf : (channels : ℕ) → (durations : List ℕ) → (value
 piecesOf n [] vs = []
 piecesOf n (d ∷ ds) vs = record { duration = d; sample = take n vs } ∷ piecesOf n ds (drop n vs)
 
+-- The sample of a piece, by its number.
+unfoldable pub sampleAt : (channels : ℕ) → (values : List ℤ) → (piece : ℕ) → Sample
+sampleAt n vs i = take n (drop (i * n) vs)
+
 unfoldable pub bookOf : (channels : ℕ) → (durations : List ℕ) → (values : List ℤ) → Book
 bookOf n ds vs = ticksOf (piecesOf n ds vs)
 

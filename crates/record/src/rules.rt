@@ -1,4 +1,4 @@
-// A record's rules, and those of a run's edge list and stay list.
+// A record's rules.
 ghost use mathlib.Core.Path.{_≡_};
 ghost use mathlib.Core.Bool.{_&&_};
 ghost use Prim.Native.Nat.{_≤_};
@@ -6,7 +6,6 @@ ghost use lib.Dec.{leb};
 ghost use lib.ListN.{length};
 ghost use Rattle.pattern.specs.Slots.{all};
 ghost use Rattle.record.specs.Record.{total, valueInRange, recordSound};
-ghost use Rattle.record.specs.Price.{stepsFit};
 
 // Whether each piece has at least 1 tick.
 pub fn all_last(durations: &[u32]) -> bool
@@ -64,14 +63,4 @@ pub fn record_sound(channels: u8, durations: &[u32], values: &[i32]) -> bool
     } else {
         false
     }
-}
-
-pub fn steps_fit(durations: &[u32], begin: u32, edges: &[u32], stays: &[u32]) -> bool
-    requires { ⌜ length (now durations) ≤ 4096 ⌝ }
-    ensures { λ r. ⌜ r ≡ stepsFit (now (durations .entry)) begin (now (edges .entry)) (now (stays .entry)) ⌝ }
-{
-    (edges.len() == stays.len())
-        & (1 <= edges.len())
-        & (edges.len() <= 4095)
-        & ((begin as u64) < ticks(durations))
 }

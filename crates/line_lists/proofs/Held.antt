@@ -1,0 +1,63 @@
+-- Holding a number changes no judgement of it; and lists whose first four members are kept.
+use Prim.Native.Nat.{ℕ, zero, suc, _+_, _-_, _≤_, _<_, min}
+use native.Mathlib.Omega.{arith}
+use mathlib.Core.Path.{_≡_, refl, sym, ap, ap₂, _∙_}
+use mathlib.Core.List.{List, [], _∷_, _++_, append-nil}
+use mathlib.Core.Bool.{Bool, true, false, cond, _&&_}
+use lib.Dec.{leb, ltb}
+use lib.ListN.{length, take, set, length-append, length-take}
+use lib.Seq.{take-all, take-append-le}
+use lib.IntN.{ℤ, pos, negsuc, natAbs}
+use borrow.Author.Tests.{leb-true, leb-false, le-leb, lt-leb, ltb-true, ltb-false, lt-ltb, le-ltb}
+use Rattle.pattern.specs.Slots.{all}
+use Rattle.pattern_text.specs.Text.{pad}
+use Rattle.pattern_text.proofs.Tools.{by-test}
+use Rattle.pattern_text.proofs.ForCode.{pad-snoc}
+use Rattle.text_scan.specs.Scan.{cap, held}
+
+pub min-leb : (c k n : ℕ) → k < c → leb (min c n) k ≡ leb n k
+min-leb c k n h = by-test (leb n k)
+    (λ t. rw t (le-leb (min c n) k (omega (arith, leb-true n k t))))
+    (λ t. rw t (lt-leb (min c n) k (omega (arith, leb-false n k t))))
+
+pub min-ltb : (c k n : ℕ) → k ≤ c → ltb (min c n) k ≡ ltb n k
+min-ltb c k n h = by-test (ltb n k)
+    (λ t. rw t (lt-ltb (min c n) k (omega (arith, ltb-true n k t))))
+    (λ t. rw t (le-ltb (min c n) k (omega (arith, ltb-false n k t))))
+
+pub held-leb : (z : ℤ) → leb (natAbs (held z)) 1_000_000 ≡ leb (natAbs z) 1_000_000
+held-leb (pos n) = min-leb cap 1_000_000 n (omega arith)
+held-leb (negsuc n) = by-test (leb (suc n) 1_000_000)
+    (λ t. rw t (le-leb (suc (min 1_000_000 n)) 1_000_000 (omega (arith, leb-true (suc n) 1_000_000 t))))
+    (λ t. rw t (lt-leb (suc (min 1_000_000 n)) 1_000_000 (omega (arith, leb-false (suc n) 1_000_000 t))))
+
+-- ---- tests over a list with one member more
+
+and-assoc : (a b c : Bool) → a && (b && c) ≡ (a && b) && c
+and-assoc true b c = refl
+and-assoc false b c = refl
+
+and-true : (a : Bool) → a && true ≡ a
+and-true true = refl
+and-true false = refl
+
+pub all-snoc : {A : Type 0} (p : A → Bool) (xs : List A) (x : A) → all p (xs ++ (x ∷ [])) ≡ all p xs && p x
+all-snoc p [] x = and-true (p x)
+all-snoc p (y ∷ ys) x = ap (λ b. p y && b) (all-snoc p ys x) ∙ and-assoc (p y) (all p ys) (p x)
+
+-- ---- the first four members of a list, in an array of four
+
+module _ {A : Type 0} (u : A) where
+  pub kept : (xs : List A) (x : A) → cond (ltb (min 5 (length xs)) 4) (set (pad 4 u (take 4 xs)) (min 5 (length xs)) x) (pad 4 u (take 4 xs)) ≡ pad 4 u (take 4 (xs ++ (x ∷ [])))
+  kept xs x = by-test (ltb (length xs) 4)
+      (λ t.
+      let h = ltb-true (length xs) 4 t in
+      let m : min 5 (length xs) ≡ length xs = omega arith in
+      let l : length (xs ++ (x ∷ [])) ≤ 4 = rw (length-append xs (x ∷ [])) (omega arith) in
+      rw (m, t, take-all 4 xs (omega arith), take-all 4 (xs ++ (x ∷ [])) l) (sym (pad-snoc 4 u x xs h)))
+      (λ t.
+      let h = ltb-false (length xs) 4 t in
+      rw (le-ltb (min 5 (length xs)) 4 (omega arith), take-append-le 4 xs (x ∷ []) h) refl)
+
+pub counted : {A : Type 0} (xs : List A) (x : A) → min 5 (min 5 (length xs) + 1) ≡ min 5 (length (xs ++ (x ∷ [])))
+counted xs x = rw (length-append xs (x ∷ [])) (omega arith)

@@ -1,0 +1,110 @@
+-- Tests one by one, gathered, are the tests that stand there.
+use Prim.Native.Nat.{ℕ, zero, suc, _+_, _-_, _≤_, _<_, min}
+use native.Mathlib.Omega.{arith}
+use mathlib.Core.Path.{_≡_, refl, sym, ap, _∙_}
+use mathlib.Core.List.{List, [], _∷_, _++_, map, map-append, append-nil, append-assoc}
+use mathlib.Core.Bool.{Bool, true, false, cond, _&&_}
+use lib.Dec.{leb, ltb}
+use lib.ListN.{length, take, drop, set, length-map, length-drop}
+use lib.IntN.{ℤ}
+use Rattle.pattern.specs.declared.Test.{Test}
+use Rattle.pattern.specs.Slots.{all}
+use Rattle.pattern.specs.Sound.{noTest, testInRange, testKnown}
+use Rattle.pattern_text.specs.Bytes.{Bytes, Reading, got, broken}
+use Rattle.pattern_text.specs.Form.{many}
+use Rattle.pattern_text.specs.Line.{test}
+use Rattle.pattern_text.specs.Text.{pad}
+use Rattle.pattern_text.proofs.LineLaws.{test-exact, test-long}
+use Rattle.text_scan.specs.Scan.{endOf, cap}
+use Rattle.text_scan.proofs.Position.{end-drop}
+use Rattle.text_scan.proofs.Rests.{rests-form}
+use Rattle.line_lists.specs.declared.Tests.{Tests}
+use Rattle.line_lists.specs.declared.TestsRead.{TestsRead}
+use Rattle.line_parts.specs.declared.TestRead.{TestRead}
+use Rattle.line_parts.specs.declared.TestRead.the-variants.{Value, Broken}
+use Rattle.line_parts.specs.Parts.{heldTest, testIn, testAt}
+use Rattle.line_lists.specs.Lists.{noTests, addTest, gatheredTests, testTurned, testTurn, testsIn, testsAt}
+use Rattle.line_parts.proofs.Taken.{TestFound, test-found, test-missing}
+use Rattle.line_lists.proofs.Gather.{shrinks, folded, gather, all-of, Walk, arrived, walked, walked-end, Turned, turn-end, turn-more}
+use Rattle.line_lists.proofs.Held.{min-ltb, held-leb, all-snoc, kept, counted}
+
+-- ---- one test more
+
+in-range-held : (x : Test) → testInRange (heldTest x) ≡ testInRange x
+unfolding testInRange
+in-range-held x = held-leb (x .bound)
+
+known-held : (channels : ℕ) → channels ≤ 255 → (x : Test) → testKnown channels (heldTest x) ≡ testKnown channels x
+unfolding testKnown
+known-held channels h x = min-ltb 255 channels (x .channel) h
+
+module _ (channels : ℕ) (few : channels ≤ 255) where
+  abbrev add : Tests → Test → Tests
+  add s x = addTest channels s (heldTest x)
+
+  one-more : (xs : List Test) (x : Test) → add (gatheredTests channels xs) x ≡ gatheredTests channels (xs ++ (x ∷ []))
+  unfolding addTest gatheredTests
+  one-more xs x = λ i. record { tests = tests i; count = counted xs x i; inrange = inrange i; known = known i }
+    where
+      n : length (map heldTest xs) ≡ length xs
+      n = length-map xs heldTest
+
+      tests : cond (ltb (min 5 (length xs)) 4) (set (pad 4 noTest (take 4 (map heldTest xs))) (min 5 (length xs)) (heldTest x)) (pad 4 noTest (take 4 (map heldTest xs))) ≡ pad 4 noTest (take 4 (map heldTest (xs ++ (x ∷ []))))
+      tests = rw (map-append heldTest xs (x ∷ []), ← n) (kept noTest (map heldTest xs) (heldTest x))
+
+      inrange : all testInRange xs && testInRange (heldTest x) ≡ all testInRange (xs ++ (x ∷ []))
+      inrange = rw (all-snoc testInRange xs x, in-range-held x) refl
+
+      known : all (testKnown channels) xs && testKnown channels (heldTest x) ≡ all (testKnown channels) (xs ++ (x ∷ []))
+      known = rw (all-snoc (testKnown channels) xs x, known-held channels few x) refl
+
+-- ---- the walk over the tests
+
+abbrev pub walkOf : TestsRead → Walk Tests
+walkOf s = record { state = s .tests; next = s .next; more = s .more }
+
+abbrev back : Walk Tests → TestsRead
+back w = record { tests = w .state; next = w .next; more = w .more }
+
+unfoldable pub testsFrom : (channels : ℕ) → Bytes → TestsRead → TestsRead
+testsFrom channels t s = back (walked test (λ g x. addTest channels g (heldTest x)) noTests t (walkOf s))
+
+module _ (channels : ℕ) (t : Bytes) where
+  abbrev pub Onward : TestsRead → TestsRead → Type 0
+  Onward s r = Turned test (λ g x. addTest channels g (heldTest x)) noTests t (walkOf s) (walkOf r)
+
+  pub tests-start : channels ≤ 255 → (at : ℕ) → testsAt channels t at ≡ testsFrom channels t (record { tests = noTests; next = at; more = true })
+  unfolding testsAt testsFrom walked gatheredTests pad
+  tests-start few at = go (many test .read (drop at t))
+    where
+      go : (x : Reading (List Test)) → testsIn channels t x ≡ back (arrived noTests t (gather (λ g x. addTest channels g (heldTest x)) noTests x))
+      go (got xs r) = ap (λ g. record { tests = g; next = endOf t r; more = false }) (sym (all-of (λ g x. addTest channels g (heldTest x)) (gatheredTests channels) (one-more channels few) [] xs))
+      go broken = refl
+
+  pub tests-end : (s : TestsRead) → s .more ≡ false → s ≡ testsFrom channels t s
+  unfolding testsFrom
+  tests-end s e = ap back (walked-end test (λ g x. addTest channels g (heldTest x)) noTests t (walkOf s) e)
+
+  pub tests-same : (s r : TestsRead) → Onward s r → testsFrom channels t s ≡ testsFrom channels t r
+  unfolding testsFrom
+  tests-same s r h = ap back (h .same)
+
+  shorter : (b : Bytes) (a : Test) (r : Bytes) → test .read b ≡ got a r → length r < length b
+  shorter = shrinks test-exact test-long
+
+  pub tests-turn : (s : TestsRead) → s .more ≡ true → s .next ≤ length t → Onward s (testTurn channels t s)
+  unfolding testTurn
+  tests-turn s e l = go (testAt t (s .next)) refl
+    where
+      go : (r : TestRead) → r ≡ testAt t (s .next) → Onward s (testTurned channels s r)
+      go (Value y n) p = let k = test-found t (s .next) y n p in rw (k .made) (turn-more test (λ g x. addTest channels g (heldTest x)) noTests t shorter (walkOf s) (k .raw) n e l (k .is) (k .within))
+      go Broken p = turn-end test (λ g x. addTest channels g (heldTest x)) noTests t shorter (walkOf s) e l (test-missing t (s .next) p)
+
+  -- what a turn answers
+  pub turned-end : (s : TestsRead) → Broken ≡ testAt t (s .next) → record { tests = s .tests; next = s .next; more = false } ≡ testTurn channels t s
+  unfolding testTurn
+  turned-end s e = ap (testTurned channels s) e
+
+  pub turned-more : (s : TestsRead) (x : Test) (n : ℕ) (g : Tests) → Value x n ≡ testAt t (s .next) → g ≡ addTest channels (s .tests) x → record { tests = g; next = n; more = true } ≡ testTurn channels t s
+  unfolding testTurn
+  turned-more s x n g e h = ap (λ g. record { tests = g; next = n; more = true }) h ∙ ap (testTurned channels s) e

@@ -1,0 +1,2 @@
+-- Definitions: the parts of a line at a position.
+pub mod Parts

@@ -1,0 +1,2 @@
+-- Laws: the lines at a position.
+pub mod LineReads

@@ -1,0 +1,2 @@
+-- Definitions: the lines at a position.
+pub mod Lines

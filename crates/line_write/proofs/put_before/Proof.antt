@@ -1,0 +1,41 @@
+-- What stands before a clock that is reset.
+use borrow.Author.Needs.{needs}
+use Rattle.line_write.proofs.put_before.Statement.{statement}
+use Rattle.line_write.proofs.put_before.Tie as tie
+
+slice-aggregate-put-word : tie.Need-slice-aggregate-put-word
+slice-aggregate-put-word c = search needs
+
+put-word-requires : tie.Need-put-word-requires
+put-word-requires c κs = search needs
+
+slice-aggregate-put-word-2 : tie.Need-slice-aggregate-put-word-2
+slice-aggregate-put-word-2 c = search needs
+
+put-word-requires-2 : tie.Need-put-word-requires-2
+put-word-requires-2 c κs = search needs
+
+same-length : tie.Need-same-length
+same-length c = search needs
+
+returns : tie.Need-returns
+returns c = let p = c .before .before in rw (p .before .before .before .if1 .taken) (p .put-word .ensures)
+
+same-length-2 : tie.Need-same-length-2
+same-length-2 c = search needs
+
+returns-2 : tie.Need-returns-2
+returns-2 c = let p = c .before .before in rw (p .before .before .before .if1 .left) (p .put-word2 .ensures)
+
+pub put-before-spec : {M : Type 1} → statement M
+put-before-spec =
+    tie.close
+    (tie.spec
+    slice-aggregate-put-word
+    put-word-requires
+    slice-aggregate-put-word-2
+    put-word-requires-2
+    same-length
+    returns
+    same-length-2
+    returns-2)

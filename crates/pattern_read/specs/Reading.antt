@@ -1,0 +1,28 @@
+-- What `read` answers: document 01's answer to the text, "a value that must stand beside it is zeros throughout" at a refusal.
+use lib.ListN.{replicate}
+use Rattle.weighting.specs.declared.Weighing.the-variants.{Margin}
+use Rattle.pattern.specs.declared.Pattern.{Pattern}
+use Rattle.pattern.specs.declared.Refusal.{Refusal}
+use Rattle.pattern.specs.Sound.{noPlace, noEdge}
+use Rattle.pattern_text.specs.Text.{Answer, accepted, refused}
+use Rattle.pattern_read.specs.declared.Outcome.{Outcome}
+use Rattle.pattern_read.specs.declared.Outcome.the-variants.{Accepted, Refused}
+use Rattle.pattern_read.specs.declared.PatternRead.{PatternRead}
+
+-- zeros throughout
+abbrev pub noPattern : Pattern
+noPattern = record {
+  weighing = Margin;
+  channels = 0;
+  clocks = 0;
+  low = 0;
+  high = 0;
+  placecount = 0;
+  places = replicate 16 noPlace;
+  edgecount = 0;
+  edges = replicate 32 noEdge;
+}
+
+abbrev pub readingOf : Answer → PatternRead
+readingOf (accepted p) = record { outcome = Accepted; pattern = p }
+readingOf (refused r) = record { outcome = Refused r; pattern = noPattern }

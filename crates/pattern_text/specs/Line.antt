@@ -1,0 +1,136 @@
+-- The lines of a pattern text (document 01, 'Pattern text'), with numbers of any size.
+use Prim.Native.Nat.{ℕ}
+use Prim.Native.String.{String}
+use mathlib.Core.List.{List, [], _∷_}
+use mathlib.Core.Option.{Option, none, some}
+use Rattle.pattern.specs.declared.Sign.{Sign}
+use Rattle.pattern.specs.declared.Sign.the-variants.{Less, AtMost, More, AtLeast}
+use Rattle.pattern.specs.declared.Kind.{Kind}
+use Rattle.pattern.specs.declared.Kind.the-variants.{Start, Plain, End, Both}
+use Rattle.weighting.specs.declared.Weighing.{Weighing}
+use Rattle.weighting.specs.declared.Weighing.the-variants.{Margin, Sum}
+use Rattle.pattern.specs.declared.Test.{Test}
+use Rattle.pattern.specs.declared.Guard.{Guard}
+use Rattle.pattern_text.specs.Bytes.{Bytes, Reading, got, broken}
+use Rattle.pattern_text.specs.Form.{Form, giving, orElse, _▸_, _◂_, _⨾_, oneOf, many, mapped, number, integer}
+
+-- "Line 1: `margin` or `sum`; channels; clocks; the window's low; its high"
+pub record Header : Type 0 where
+  pub weighing : Weighing
+  pub channels : ℕ
+  pub clocks : ℕ
+  pub low : ℕ
+  pub high : ℕ
+
+-- a place: "`start`, `plain`, `end` or `both`, with .. tests"
+pub record PlaceLine : Type 0 where
+  pub kind : Kind
+  pub tests : List Test
+
+-- an edge: "from, to, .. guards .., then resets"
+pub record EdgeLine : Type 0 where
+  pub from : ℕ
+  pub to : ℕ
+  pub guards : List Guard
+  pub resets : List ℕ
+
+-- "one form a line": what a line can say
+pub data Raw : Type 0 where
+  header : Header → Raw
+  place : PlaceLine → Raw
+  edge : EdgeLine → Raw
+
+-- ---- the words, "matched byte for byte", with the brackets and single spaces that stand beside them
+
+-- "a sign `<`, `<=`, `>`, `>=`"
+unfoldable pub signWord : Sign → String
+signWord Less = " (< "
+signWord AtMost = " (<= "
+signWord More = " (> "
+signWord AtLeast = " (>= "
+
+-- "`start`, `plain`, `end` or `both`"
+unfoldable pub kindWord : Kind → String
+kindWord Start = "start"
+kindWord Plain = "plain"
+kindWord End = "end"
+kindWord Both = "both"
+
+-- "`margin` or `sum`"
+unfoldable pub weighingWord : Weighing → String
+weighingWord Margin = "margin "
+weighingWord Sum = "sum "
+
+unfoldable pub sign : Form Sign
+sign = oneOf signWord (Less ∷ AtMost ∷ More ∷ AtLeast ∷ [])
+
+unfoldable pub kind : Form Kind
+kind = oneOf kindWord (Start ∷ Plain ∷ End ∷ Both ∷ [])
+
+unfoldable pub weighing : Form Weighing
+weighing = oneOf weighingWord (Margin ∷ Sum ∷ [])
+
+-- ---- the parts
+
+-- ` (< 0 15)`: "A test is a sign, a channel, and a bound"
+unfoldable pub test : Form Test
+test = mapped (λ (s, (c, b)). record { sign = s; channel = c; bound = b }) (λ t. (t .sign, (t .channel, t .bound)))
+    (sign ⨾ number ◂ " " ⨾ integer ◂ ")")
+
+-- ` (< 0 3)`: "a sign, a clock, a bound"
+unfoldable pub guard : Form Guard
+guard = mapped (λ (s, (c, b)). record { sign = s; clock = c; bound = b }) (λ g. (g .sign, (g .clock, g .bound)))
+    (sign ⨾ number ◂ " " ⨾ number ◂ ")")
+
+-- ` (reset 0 2)`: "at least one clock"
+unfoldable pub bracket : Form (ℕ × List ℕ)
+bracket = " (reset " ▸ number ⨾ many (" " ▸ number) ◂ ")"
+
+-- "or no bracket at all"
+unfoldable pub writeResets : List ℕ → Bytes
+writeResets [] = []
+writeResets (c ∷ cs) = bracket .write (c, cs)
+
+unfoldable pub resets : Form (List ℕ)
+resets = record { write = writeResets; read = λ b. orElse (giving (λ (c, cs). c ∷ cs) (bracket .read b)) (got [] b) }
+
+-- ---- the lines
+
+-- `(pattern margin 1 1 1 4)`
+unfoldable pub headerLine : Form Header
+headerLine = mapped
+    (λ (w, (n, (m, (l, h)))). record { weighing = w; channels = n; clocks = m; low = l; high = h })
+    (λ h. (h .weighing, (h .channels, (h .clocks, (h .low, h .high)))))
+    ("(pattern " ▸ weighing ⨾ number ◂ " " ⨾ number ◂ " " ⨾ number ◂ " " ⨾ number ◂ ")")
+
+-- `(place start (< 0 15))`
+unfoldable pub placeLine : Form PlaceLine
+placeLine = mapped (λ (k, ts). record { kind = k; tests = ts }) (λ l. (l .kind, l .tests))
+    ("(place " ▸ kind ⨾ many test ◂ ")")
+
+-- `(edge 0 1 (< 0 3) (reset 0))`
+unfoldable pub edgeLine : Form EdgeLine
+edgeLine = mapped
+    (λ (f, (t, (gs, rs))). record { from = f; to = t; guards = gs; resets = rs })
+    (λ e. (e .from, (e .to, (e .guards, e .resets))))
+    ("(edge " ▸ number ◂ " " ⨾ number ⨾ many guard ⨾ resets ◂ ")")
+
+-- a line without its line feed
+unfoldable pub renderLine : Raw → Bytes
+renderLine (header h) = headerLine .write h
+renderLine (place l) = placeLine .write l
+renderLine (edge e) = edgeLine .write e
+
+-- a line of one of the three kinds at the front
+unfoldable pub readLine : Bytes → Reading Raw
+readLine b = orElse (giving header (headerLine .read b)) (orElse (giving place (placeLine .read b)) (giving edge (edgeLine .read b)))
+
+-- what was read, if nothing follows it
+abbrev pub whole : {A : Type 0} → Reading A → Option A
+whole (got a []) = some a
+whole (got a (c ∷ r)) = none
+whole broken = none
+
+-- what a line says, without its line feed
+unfoldable pub lineOf : Bytes → Option Raw
+lineOf b = whole (readLine b)

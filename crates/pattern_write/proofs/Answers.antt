@@ -1,0 +1,42 @@
+-- A text that fits is in the buffer whole; and the three answers.
+use Prim.Native.Nat.{ℕ, _≤_, _<_, zero-le}
+use mathlib.Core.Path.{_≡_, refl, sym, ap, _∙_}
+use mathlib.Core.Bool.{true, false}
+use mathlib.Core.List.{_++_}
+use borrow.Author.Tests.{lt-ltb, le-ltb}
+use lib.ListN.{length, take, drop}
+use lib.Seq.{take-all, take-length, length-take-le}
+use Rattle.pattern.specs.declared.Pattern.{Pattern}
+use Rattle.pattern.specs.declared.Refusal.the-variants.{OutputTooShort, UnsoundPattern}
+use Rattle.pattern.specs.Sound.{soundOf}
+use Rattle.pattern_text.specs.Bytes.{Bytes}
+use Rattle.pattern_text.specs.Text.{renderOf}
+use Rattle.text_put.specs.Put.{Put}
+use Rattle.pattern_write.specs.declared.Written.the-variants.{Length, Refused}
+use Rattle.pattern_write.specs.Written.{writtenOf, outputOf}
+
+pub record Whole (b : Bytes) (n : ℕ) (t : Bytes) : Type 0 where
+  pub size : n ≡ length t
+  pub room : n ≤ length b
+  pub text : take n b ≡ t
+
+pub whole : {b b′ : Bytes} {n : ℕ} {t : Bytes} → Put b b′ 0 n t → length t ≤ length b → Whole b′ n t
+whole {b} {b′} {n} {t} p h =
+    let room : n ≤ length b′ = rw (p .long) (p .inside zero-le) in
+    let text : take n b′ ≡ t = p .text ∙ take-all (length b) t h in
+    record { size = sym (length-take-le n b′ room) ∙ ap length text; room = room; text = text }
+
+pub copied : {b t r : Bytes} {n : ℕ} (out : Bytes) → Whole b n t → r ≡ take (length (take n b)) (take n b) ++ drop (length (take n b)) out → r ≡ t ++ drop (length t) out
+copied {b} {t} {r} {n} out w e = e ∙ rw (take-length (take n b), w .text)
+
+-- ---- the three answers
+
+module _ (p : Pattern) (out : Bytes) where
+  pub unsound : soundOf p ≡ false → (Refused UnsoundPattern ≡ writtenOf p (length out)) × (out ≡ outputOf p out)
+  unsound e = rw e (refl, refl)
+
+  pub too-short : soundOf p ≡ true → length out < length (renderOf p) → (Refused OutputTooShort ≡ writtenOf p (length out)) × (out ≡ outputOf p out)
+  too-short e h = rw (e, lt-ltb (length out) (length (renderOf p)) h) (refl, refl)
+
+  pub written : soundOf p ≡ true → length (renderOf p) ≤ length out → (Length (length (renderOf p)) ≡ writtenOf p (length out)) × (renderOf p ++ drop (length (renderOf p)) out ≡ outputOf p out)
+  written e h = rw (e, le-ltb (length out) (length (renderOf p)) h) (refl, refl)

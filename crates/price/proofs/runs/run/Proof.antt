@@ -1,0 +1,75 @@
+use Prim.Native.Nat.{_+_}
+use native.Mathlib.Omega.{arith}
+use mathlib.Core.Path.{_≡_, refl, sym, ap, _∙_}
+use borrow.Author.Needs.{needs}
+use Prim.Native.Nat.{_-_, _≤_}
+use mathlib.Core.List.{_∷_}
+use lib.ListN.{length, drop, getD}
+use Rattle.record.specs.Run.{stepsOf}
+use Rattle.price.specs.Stand.{outcome, Held}
+use Rattle.price.proofs.RunLaws.{steps-at, steps-none}
+use Rattle.price.proofs.runs.run.Statement.{statement}
+use Rattle.price.proofs.runs.run.Tie as tie
+
+abbrev Inv-loop : tie.InvT-loop
+Inv-loop p durations values edges stays at₀ i₀ at i = (i ≤ length edges) × (Held p durations values at × (outcome p durations values at (drop i (stepsOf edges stays)) ≡ outcome p durations values at₀ (stepsOf edges stays)))
+
+abbrev μ-loop : tie.MeasureT-loop
+μ-loop p durations values edges stays at₀ i₀ at i = length edges - i
+
+loop-holds : tie.Need-loop-holds Inv-loop μ-loop
+loop-holds c = (omega arith, (c .before .before .before .pre .0, refl))
+
+mul-step : tie.Need-mul-step Inv-loop μ-loop
+mul-step c = omega arith
+
+shared-slice-read-step : tie.Need-shared-slice-read-step Inv-loop μ-loop
+shared-slice-read-step c = omega arith
+
+mul-step-2 : tie.Need-mul-step-2 Inv-loop μ-loop
+mul-step-2 c = let e = c .before .before .before .before .before .before .pre .1 in omega arith
+
+shared-slice-read-step-2 : tie.Need-shared-slice-read-step-2 Inv-loop μ-loop
+shared-slice-read-step-2 c = let e = c .before .before .before .before .before .before .before .pre .1 in omega arith
+
+step-requires : tie.Need-step-requires Inv-loop μ-loop
+step-requires c κs = c .before .before .before .loop .inv .1 .0
+
+add-i : tie.Need-add-i Inv-loop μ-loop
+add-i c = omega arith
+
+loop-less : tie.Need-loop-less Inv-loop μ-loop
+loop-less c = omega arith
+
+loop-again : tie.Need-loop-again Inv-loop μ-loop
+loop-again c =
+    let s = c .before .before .before .before .before .before .before .before in
+    let l = c .before .before .before .before .loop in
+    let same = s .pre .1 in
+    let es = s .args .edges .now in
+    let ss = s .args .stays .now in
+    (omega arith, (c .step .ensures .held, c .step .ensures .same (drop (l .i + 1) (stepsOf es ss)) ∙ rw (← steps-at es ss (l .i) same (omega arith)) (l .inv .1 .1)))
+
+returns : tie.Need-returns Inv-loop μ-loop
+returns c =
+    let s = c .before .before .before .before .before in
+    let l = c .before .loop in
+    let none-left = steps-none (s .args .edges .now) (s .args .stays .now) (l .i) (s .pre .1) (omega (arith, c .loop-test .left)) in
+    rw none-left at (l .inv .1 .1)
+
+pub run-spec : {M : Type 1} → statement M
+run-spec =
+    tie.close
+    (tie.spec
+    Inv-loop
+    μ-loop
+    loop-holds
+    mul-step
+    shared-slice-read-step
+    mul-step-2
+    shared-slice-read-step-2
+    step-requires
+    add-i
+    loop-less
+    loop-again
+    returns)

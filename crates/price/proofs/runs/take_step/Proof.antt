@@ -1,0 +1,106 @@
+use lib.IntN.{natAbs}
+use Rattle.record.specs.Run.{Step}
+use Rattle.integers.proofs.Ranges.{abs-fits-64}
+use Rattle.integers.proofs.Casts.{read-back}
+use mir.Val.{toZ, ofZ}
+use mir.Syntax.{w64}
+use Prim.Native.Nat.{_≤_, _<_, _^_}
+use Rattle.record.proofs.ListLaws.{getD-any}
+use Rattle.pattern.proofs.SoundLaws.{parts}
+use Rattle.pattern.specs.InUse.{edgeAt, placeAt}
+use Rattle.pattern.specs.Sound.{noEdge, noPlace}
+use Rattle.pattern.specs.declared.Place.{Place}
+use Rattle.pattern.specs.declared.Edge.{Edge}
+use lib.ListN.{getD}
+use native.Mathlib.Omega.{arith}
+use mathlib.Core.Path.{_≡_, refl, sym, ap, _∙_}
+use borrow.Author.Needs.{needs}
+use Rattle.price.proofs.RunLaws.{can-parts, edge-at-sound, room, walks, made}
+use borrow.Author.Needs.{needs}
+use Rattle.price.proofs.runs.take_step.Statement.{statement}
+use Rattle.price.proofs.runs.take_step.Tie as tie
+
+-- the edge, which the pattern has
+known : (s : tie.Start) → s .args .edge < s .args .t1 .edgecount
+known s = can-parts (s .args .t1) (s .args .s .place) (s .args .s .clocks) (record { edge = s .args .edge; stay = s .args .stay }) (s .pre .1 .can) .known
+
+in-array : (s : tie.Start) → s .args .edge < 32
+in-array s = edge-at-sound (s .args .t1) (s .args .edge) (s .pre .0 .sound) (known s) .0
+
+mul-e : tie.Need-mul-e
+mul-e c = search needs
+
+-- the edge and the place as the code reads them, whatever it would read past an array's end
+edge-is : (s : tie.Start) (d : Edge) → getD (s .args .t1 .edges) (s .args .edge) d ≡ edgeAt (s .args .t1) (s .args .edge)
+edge-is s d = let e = parts (s .args .t1) (s .pre .0 .sound) .edges .long in getD-any (s .args .t1 .edges) (s .args .edge) d noEdge (omega (arith, in-array s))
+
+place-in-array : (s : tie.Start) → edgeAt (s .args .t1) (s .args .edge) .from < 16
+place-in-array s =
+    let few = parts (s .args .t1) (s .pre .0 .sound) .places .few in
+    omega (arith, edge-at-sound (s .args .t1) (s .args .edge) (s .pre .0 .sound) (known s) .1)
+
+place-is : (s : tie.Start) (d : Place) → getD (s .args .t1 .places) (edgeAt (s .args .t1) (s .args .edge) .from) d ≡ placeAt (s .args .t1) (edgeAt (s .args .t1) (s .args .edge) .from)
+place-is s d = let e = parts (s .args .t1) (s .pre .0 .sound) .places .long in getD-any (s .args .t1 .places) (edgeAt (s .args .t1) (s .args .edge) .from) d noPlace (omega (arith, place-in-array s))
+
+element-copy-out-e : tie.Need-element-copy-out-e
+element-copy-out-e c = in-array (c .before)
+
+cast-i : tie.Need-cast-i
+cast-i c = search needs
+
+mul-l : tie.Need-mul-l
+mul-l c = search needs
+
+element-copy-out-l : tie.Need-element-copy-out-l
+element-copy-out-l c =
+    let s = c .before .before .before in
+    rw (edge-is s _) (place-in-array s)
+
+cast-stay-in : tie.Need-cast-stay-in
+cast-stay-in c = search needs
+
+-- the worth so far, as the machine reads it
+reads-worth : (s : tie.Start) → toZ w64 (ofZ w64 (s .args .s .worth)) ≡ s .args .s .worth
+reads-worth s =
+    let h = s .pre .0 .size in
+    read-back w64 (s .args .s .worth) (abs-fits-64 (s .args .s .worth) (2 ^ 60) (omega arith) (omega arith))
+
+stay-in-requires : tie.Need-stay-in-requires
+stay-in-requires c κs =
+    let s = c .before .before .before .before .before in
+    rw (edge-is s _, place-is s _, reads-worth s) (walks (s .args .t1) (s .args .durations .now) (s .args .values .now) (s .args .s) (s .pre .0) (s .args .edge) (s .args .stay) (known s) (s .pre .1 .fits))
+
+grown-requires : tie.Need-grown-requires
+grown-requires c κs = room (c .before .before .before .before .before .before .before .args .t1) (c .before .before .before .before .before .before .before .args .durations .now) (c .before .before .before .before .before .before .before .args .values .now) (c .before .before .before .before .before .before .before .args .s) (c .before .before .before .before .before .before .before .pre .0) (c .before .before .before .before .before .before .before .args .stay) (c .before .before .before .before .before .before .before .pre .1 .fits)
+
+after-resets-requires : tie.Need-after-resets-requires
+after-resets-requires c κs = search needs
+
+sub-t26 : tie.Need-sub-t26
+sub-t26 c = search needs
+
+returns : tie.Need-returns
+returns c =
+    let s = c .before .before .before .before .before .before .before .before .before .before .before in
+    let there = c .before .before .before .before .before .stay-in in
+    let x : Step = record { edge = s .args .edge; stay = s .args .stay } in
+    let stayed = rw (edge-is s _, place-is s _, reads-worth s) at (there .ensures) in
+    let small : natAbs (there .result .worth) ≤ 2 ^ 60 = let h = s .pre .0 .size in let l = s .pre .1 .fits in omega (arith, stayed .size) in
+    rw (read-back w64 (there .result .worth) (abs-fits-64 (there .result .worth) (2 ^ 60) small (omega arith)), c .before .before .after-resets .ensures, c .before .before .before .grown .ensures, edge-is s _)
+    (made (s .args .t1) (s .args .durations .now) (s .args .values .now) (s .args .s) (s .pre .0) x (there .result) (s .pre .1) stayed)
+
+pub take-step-spec : {M : Type 1} → statement M
+take-step-spec =
+    tie.close
+    (tie.spec
+    mul-e
+    element-copy-out-e
+    cast-i
+    mul-l
+    element-copy-out-l
+    cast-stay-in
+    stay-in-requires
+    grown-requires
+    after-resets-requires
+    sub-t26
+    returns)

@@ -1,0 +1,236 @@
+// A run, step by step.
+use super::Begin;
+use super::Priced;
+use super::Stand;
+use super::Walk;
+use super::stays::stay_in;
+use pattern::Kind;
+use pattern::Pattern;
+use pattern::Refusal;
+use pattern::clocks::after_resets;
+use pattern::clocks::guards_hold;
+use pattern::is_end;
+use pattern::is_start;
+use record::rules::ticks;
+use weighting::unit;
+ghost use mathlib.Core.Path.{_≡_};
+ghost use mathlib.Core.Bool.{true, cond};
+ghost use mathlib.Core.List.{[]};
+ghost use mathlib.Core.Option.{none, some};
+ghost use Prim.Native.Nat.{_<_};
+ghost use lib.ListN.{length};
+ghost use Rattle.weighting.specs.Weightings.{weightingOf};
+ghost use Rattle.pattern.specs.InUse.{placeAt, edgeAt};
+ghost use Rattle.pattern.specs.Kinds.{isStart, isEnd};
+ghost use Rattle.pattern.specs.Clocks.{zeroClocks, later};
+ghost use Rattle.pattern.specs.Sound.{soundOf};
+ghost use Rattle.record.specs.Record.{total, bookOf};
+ghost use Rattle.record.specs.Run.{canStep, stepsOf};
+ghost use Rattle.record.specs.Worth.{priceOf};
+ghost use Rattle.price.specs.Price.{scored};
+ghost use Rattle.price.specs.Stand.{Found, Room, outcome, Held, Able, Stepped, Fit};
+
+// The begin's piece, and the ticks of it that lie before the begin.
+pub fn find(durations: &[u32], begin: u32) -> Begin
+    requires { ⌜ begin < total (now durations) ⌝ }
+    ensures { λ r. ⌜ Found (now (durations .entry)) begin r ⌝ }
+{
+    let mut piece: usize = 0;
+    let mut used = begin;
+    while durations[piece] <= used {
+        used -= durations[piece];
+        piece += 1;
+    }
+    Begin {
+        piece: piece,
+        used: used,
+    }
+}
+
+// The place that an edge leaves; 0 past the last slot.
+pub fn left_by(p: Pattern, edge: u32) -> u8
+    ensures { λ r. ⌜ r ≡ edgeAt p edge .from ⌝ }
+{
+    let k = edge as usize;
+    if k < 32 {
+        let e = p.edges[k];
+        e.from
+    } else {
+        0
+    }
+}
+
+// A place's kind; plain past the last slot.
+pub fn kind_at(p: Pattern, place: u8) -> Kind
+    ensures { λ r. ⌜ r ≡ placeAt p place .kind ⌝ }
+{
+    let k = place as usize;
+    if k < 16 {
+        let l = p.places[k];
+        l.kind
+    } else {
+        Kind::Plain
+    }
+}
+
+// "every clock growing with it"
+pub fn grown(clocks: [u32; 4], stay: u32) -> [u32; 4]
+    requires { ⌜ Room clocks stay ⌝ }
+    ensures { λ r. ⌜ r ≡ later stay clocks ⌝ }
+{
+    [
+        clocks[0] + stay,
+        clocks[1] + stay,
+        clocks[2] + stay,
+        clocks[3] + stay,
+    ]
+}
+
+// Whether the step can be made in the place.
+pub fn can_step(p: Pattern, place: u8, clocks: [u32; 4], edge: u32, stay: u32) -> bool
+    requires { ⌜ soundOf p ≡ true ⌝ }
+    requires { ⌜ Room clocks stay ⌝ }
+    ensures { λ r. ⌜ r ≡ canStep p place clocks (record { edge = edge; stay = stay }) ⌝ }
+{
+    let k = edge as usize;
+    if k < (p.edgecount as usize) {
+        let e = p.edges[k];
+        (e.from == place) & (1 <= stay) & guards_hold(e, grown(clocks, stay))
+    } else {
+        false
+    }
+}
+
+// "It enters a start place at b, all clocks 0."
+pub fn start(p: Pattern, edge: u32, used: u32, left: u32) -> Stand
+    ensures { λ r. ⌜ r ≡ record { going = isStart (placeAt p (edgeAt p edge .from) .kind); place = edgeAt p edge .from; clocks = zeroClocks; piece = 0; used = used; left = left; worth = weightingOf (p .weighing) .unit } ⌝ }
+{
+    let place = left_by(p, edge);
+    let w = p.weighing;
+    Stand {
+        going: is_start(kind_at(p, place)),
+        place: place,
+        clocks: [0; 4],
+        piece: 0,
+        used: used,
+        left: left,
+        worth: unit(w),
+    }
+}
+
+// The stay, then the edge, then its resets.
+pub fn take_step(
+    p: Pattern,
+    durations: &[u32],
+    values: &[i32],
+    s: Stand,
+    edge: u32,
+    stay: u32,
+) -> Stand
+    requires { ⌜ Held p (now durations) (now values) s ⌝ }
+    requires { ⌜ Able p s (record { edge = edge; stay = stay }) ⌝ }
+    ensures { λ r. ⌜ Stepped p (now (durations .entry)) (now (values .entry)) s (record { edge = edge; stay = stay }) r ⌝ }
+{
+    let k = edge as usize;
+    let e = p.edges[k];
+    let i = e.from as usize;
+    let l = p.places[i];
+    let w = p.weighing;
+    let walk = Walk {
+        piece: s.piece,
+        used: s.used,
+        left: stay,
+        worth: s.worth,
+    };
+    let there = stay_in(w, l, p.channels as usize, durations, values, walk);
+    let c = s.clocks;
+    let clocks = after_resets(e, grown(c, stay));
+    Stand {
+        going: true,
+        place: e.to,
+        clocks: clocks,
+        piece: there.piece,
+        used: there.used,
+        left: s.left - stay,
+        worth: there.worth,
+    }
+}
+
+// One step, if it can be made and the record has its ticks.
+pub fn step(p: Pattern, durations: &[u32], values: &[i32], s: Stand, edge: u32, stay: u32) -> Stand
+    requires { ⌜ Held p (now durations) (now values) s ⌝ }
+    ensures { λ r. ⌜ Stepped p (now (durations .entry)) (now (values .entry)) s (record { edge = edge; stay = stay }) r ⌝ }
+{
+    let c = s.clocks;
+    if s.going {
+        if stay <= s.left {
+            if can_step(p, s.place, c, edge, stay) {
+                return take_step(p, durations, values, s, edge, stay);
+            }
+        }
+    }
+    Stand {
+        going: false,
+        place: s.place,
+        clocks: c,
+        piece: s.piece,
+        used: s.used,
+        left: s.left,
+        worth: s.worth,
+    }
+}
+
+// All steps.
+pub fn run(
+    p: Pattern,
+    durations: &[u32],
+    values: &[i32],
+    s: Stand,
+    edges: &[u32],
+    stays: &[u32],
+) -> Stand
+    requires { ⌜ Held p (now durations) (now values) s ⌝ }
+    requires { ⌜ length (now edges) ≡ length (now stays) ⌝ }
+    ensures { λ r. ⌜ outcome p (now (durations .entry)) (now (values .entry)) r [] ≡ outcome p (now (durations .entry)) (now (values .entry)) s (stepsOf (now (edges .entry)) (now (stays .entry))) ⌝ }
+{
+    let mut at = s;
+    let mut i: usize = 0;
+    while i < edges.len() {
+        at = step(p, durations, values, at, edges[i], stays[i]);
+        i += 1;
+    }
+    at
+}
+
+// "The last edge enters an end place"
+pub fn answer(p: Pattern, s: Stand) -> Priced
+    ensures { λ r. ⌜ r ≡ scored (cond (s .going) (cond (isEnd (placeAt p (s .place) .kind)) (some (s .worth)) none) none) ⌝ }
+{
+    if s.going {
+        if is_end(kind_at(p, s.place)) {
+            return Priced::Score(s.worth);
+        }
+    }
+    Priced::Refused(Refusal::NotARun)
+}
+
+// The run from the begin's piece onward, which is handed on as a part of the lent slices.
+pub fn score(
+    p: Pattern,
+    durations: &[u32],
+    values: &[i32],
+    begin: u32,
+    edges: &[u32],
+    stays: &[u32],
+) -> Priced
+    requires { ⌜ Fit p (now durations) (now values) begin (now edges) (now stays) ⌝ }
+    ensures { λ r. ⌜ r ≡ scored (priceOf p (bookOf (p .channels) (now (durations .entry)) (now (values .entry))) begin (stepsOf (now (edges .entry)) (now (stays .entry)))) ⌝ }
+{
+    let found = find(durations, begin);
+    let piece = found.piece;
+    let at = piece * (p.channels as usize);
+    let left = (ticks(durations) as u32) - begin;
+    let s = start(p, edges[0], found.used, left);
+    let end = run(p, &durations[piece..], &values[at..], s, edges, stays);
+    answer(p, end)
+}

@@ -1,0 +1,106 @@
+// A stay, piece by piece.
+use super::Walk;
+use pattern::Place;
+use pattern::distance::place_worth;
+use record::samples::same_sample;
+use weighting::Weighing;
+use weighting::combine;
+ghost use mathlib.Core.Path.{_≡_};
+ghost use mathlib.Core.Bool.{cond};
+ghost use Prim.Native.Nat.{_+_, _*_, _≤_, _<_};
+ghost use lib.ListN.{length};
+ghost use Rattle.weighting.specs.Weightings.{weightingOf};
+ghost use Rattle.pattern.specs.Distance.{placeWorth};
+ghost use Rattle.record.specs.Record.{sampleAt};
+ghost use Rattle.price.specs.Walk.{seenAt, joinsTo, Observes, Walks, Turned, Stayed};
+
+// Whether the piece is one with the piece before it, in a stay that began in the first.
+pub fn joins(channels: usize, values: &[i32], first: usize, piece: usize) -> bool
+    requires { ⌜ piece * channels + channels ≤ length (now values) ⌝ }
+    ensures { λ r. ⌜ r ≡ joinsTo (seenAt channels (now (values .entry)) first piece) (sampleAt channels (now (values .entry)) piece) ⌝ }
+{
+    if first < piece {
+        let before = (piece - 1) * channels;
+        let at = piece * channels;
+        let past = at + channels;
+        same_sample(&values[before..at], &values[at..past])
+    } else {
+        false
+    }
+}
+
+// The worth once the piece is observed too.
+pub fn observe(
+    w: Weighing,
+    l: Place,
+    channels: usize,
+    values: &[i32],
+    first: usize,
+    piece: usize,
+    worth: i64,
+) -> i64
+    requires { ⌜ Observes w l channels (now values) piece worth ⌝ }
+    ensures { λ r. ⌜ r ≡ cond (joinsTo (seenAt channels (now (values .entry)) first piece) (sampleAt channels (now (values .entry)) piece)) worth (weightingOf w .combine worth (placeWorth w l (sampleAt channels (now (values .entry)) piece))) ⌝ }
+{
+    if joins(channels, values, first, piece) {
+        worth
+    } else {
+        let at = piece * channels;
+        let past = at + channels;
+        combine(w, worth, place_worth(w, l, &values[at..past]))
+    }
+}
+
+// The stay goes on through one piece: to its end, or to the stay's.
+pub fn through(
+    w: Weighing,
+    l: Place,
+    channels: usize,
+    durations: &[u32],
+    values: &[i32],
+    first: usize,
+    s: Walk,
+) -> Walk
+    requires { ⌜ Walks w l channels (now durations) (now values) first s ⌝ }
+    requires { ⌜ 0 < s .left ⌝ }
+    ensures { λ r. ⌜ Turned w l channels (now (durations .entry)) (now (values .entry)) first s r ⌝ }
+{
+    let piece = s.piece;
+    let open = durations[piece] - s.used;
+    let worth = observe(w, l, channels, values, first, piece, s.worth);
+    if s.left < open {
+        Walk {
+            piece: piece,
+            used: s.used + s.left,
+            left: 0,
+            worth: worth,
+        }
+    } else {
+        Walk {
+            piece: piece + 1,
+            used: 0,
+            left: s.left - open,
+            worth: worth,
+        }
+    }
+}
+
+// The whole stay.
+pub fn stay_in(
+    w: Weighing,
+    l: Place,
+    channels: usize,
+    durations: &[u32],
+    values: &[i32],
+    s: Walk,
+) -> Walk
+    requires { ⌜ Walks w l channels (now durations) (now values) (s .piece) s ⌝ }
+    ensures { λ r. ⌜ Stayed w l channels (now (durations .entry)) (now (values .entry)) s r ⌝ }
+{
+    let first = s.piece;
+    let mut at = s;
+    while 0 < at.left {
+        at = through(w, l, channels, durations, values, first, at);
+    }
+    at
+}

@@ -1,0 +1,2 @@
+-- Definitions: words and numbers at a position.
+pub mod Scan

@@ -1,0 +1,80 @@
+-- What reading at a position of a text finds: what the definitions read from there on, with the position of the rest, and
+-- with numbers held at a cap that no range reaches.
+use Prim.Native.Nat.{ℕ, zero, suc, _+_, _-_, _*_, min}
+use mathlib.Core.List.{[], _∷_}
+use mathlib.Core.Bool.{cond}
+use lib.ListN.{length, drop}
+use lib.IntN.{ℤ, pos, negsuc}
+use Rattle.pattern_text.specs.Bytes.{Bytes, Reading, got, broken}
+use Rattle.pattern_text.specs.Numeral.{isDigit, front, after, valueFrom, numeralOf}
+use Rattle.pattern_text.specs.Form.{strip, andThen, giving, minus}
+use Rattle.pattern_text.specs.Form as form
+use Rattle.text_scan.specs.declared.Found.{Found}
+use Rattle.text_scan.specs.declared.Found.the-variants.{Nothing, At}
+use Rattle.text_scan.specs.declared.Number as number
+use Rattle.text_scan.specs.declared.Integer as integer
+use Rattle.text_scan.specs.declared.Digits.{Digits}
+
+-- where the rest of a text begins
+abbrev pub endOf : Bytes → Bytes → ℕ
+endOf t r = length t - length r
+
+abbrev pub foundIn : Bytes → Reading Unit → Found
+foundIn t (got u r) = At (endOf t r)
+foundIn t broken = Nothing
+
+-- a word, byte for byte
+unfoldable pub wordAt : (word t : Bytes) → ℕ → Found
+wordAt word t at = foundIn t (strip word (drop at t))
+
+-- the digit at the front, 10 if there is none
+abbrev pub digitOf : Bytes → ℕ
+digitOf [] = 10
+digitOf (c ∷ b) = cond (isDigit c) (c - 48) 10
+
+unfoldable pub digitAt : Bytes → ℕ → ℕ
+digitAt t at = digitOf (drop at t)
+
+-- above every number that has a range or an index
+abbrev pub cap : ℕ
+cap = 1_000_001
+
+abbrev pub heldDigit : ℕ → ℕ → ℕ
+heldDigit v d = min cap (v * 10 + d)
+
+-- the value of v followed by the digits at the front
+abbrev pub digitsIn : Bytes → ℕ → Bytes → Digits
+digitsIn t v b = record { value = min cap (valueFrom v (front b)); next = endOf t (after b) }
+
+unfoldable pub digitsAt : Bytes → ℕ → ℕ → Digits
+digitsAt t v at = digitsIn t v (drop at t)
+
+abbrev pub numberIn : Bytes → Reading ℕ → number.Number
+numberIn t (got n r) = number.the-variants.Value (min cap n) (endOf t r)
+numberIn t broken = number.the-variants.Broken
+
+unfoldable pub numberAt : Bytes → ℕ → number.Number
+numberAt t at = numberIn t (numeralOf (drop at t))
+
+-- a number, and then a word
+abbrev pub numberThen : Bytes → Bytes → Reading ℕ
+numberThen w b = andThen (numeralOf b) (λ n r. giving (λ _. n) (strip w r))
+
+unfoldable pub numberThenAt : (word t : Bytes) → ℕ → number.Number
+numberThenAt word t at = numberIn t (numberThen word (drop at t))
+
+-- held on both sides of 0
+abbrev pub held : ℤ → ℤ
+held (pos n) = pos (min cap n)
+held (negsuc n) = negsuc (min (cap - 1) n)
+
+abbrev pub integerIn : Bytes → Reading ℤ → integer.Integer
+integerIn t (got z r) = integer.the-variants.Value (held z) (endOf t r)
+integerIn t broken = integer.the-variants.Broken
+
+unfoldable pub integerAt : Bytes → ℕ → integer.Integer
+integerAt t at = integerIn t (form.integer .read (drop at t))
+
+-- the number after a minus, negated
+unfoldable pub minusAt : Bytes → ℕ → integer.Integer
+minusAt t at = integerIn t (andThen (numeralOf (drop at t)) minus)
