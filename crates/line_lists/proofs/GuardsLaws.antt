@@ -1,31 +1,27 @@
 -- Guards one by one, gathered, are the guards that stand there.
-use Prim.Native.Nat.{ℕ, zero, suc, _+_, _-_, _≤_, _<_, min}
+use Prim.Native.Nat.{ℕ, _+_, _-_, _≤_, _<_}
 use native.Mathlib.Omega.{arith}
 use mathlib.Core.Path.{_≡_, refl, sym, ap, _∙_}
-use mathlib.Core.List.{List, [], _∷_, _++_, map, map-append, append-nil, append-assoc}
-use mathlib.Core.Bool.{Bool, true, false, cond, _&&_}
-use lib.Dec.{leb, ltb}
-use lib.ListN.{length, take, drop, set, length-map, length-drop}
+use mathlib.Core.List.{List, [], _∷_, _++_}
+use mathlib.Core.Bool.{true, false}
+use lib.ListN.{length, drop}
 use Rattle.pattern.specs.declared.Guard.{Guard}
-use Rattle.pattern.specs.Slots.{all}
 use Rattle.pattern.specs.Sound.{noGuard, guardInRange, guardKnown}
 use Rattle.pattern_text.specs.Bytes.{Bytes, Reading, got, broken}
 use Rattle.pattern_text.specs.Form.{many}
 use Rattle.pattern_text.specs.Line.{guard}
 use Rattle.pattern_text.specs.Text.{pad}
 use Rattle.pattern_text.proofs.LineLaws.{guard-exact, guard-long}
-use Rattle.text_scan.specs.Scan.{endOf, cap}
-use Rattle.text_scan.proofs.Position.{end-drop}
-use Rattle.text_scan.proofs.Rests.{rests-form}
+use Rattle.text_scan.specs.Scan.{endOf}
 use Rattle.line_lists.specs.declared.Guards.{Guards}
 use Rattle.line_lists.specs.declared.GuardsRead.{GuardsRead}
 use Rattle.line_parts.specs.declared.GuardRead.{GuardRead}
 use Rattle.line_parts.specs.declared.GuardRead.the-variants.{Value, Broken}
-use Rattle.line_parts.specs.Parts.{heldGuard, guardIn, guardAt}
+use Rattle.line_parts.specs.Parts.{heldGuard, guardAt}
 use Rattle.line_lists.specs.Lists.{noGuards, addGuard, gatheredGuards, guardTurned, guardTurn, guardsIn, guardsAt}
-use Rattle.line_parts.proofs.Taken.{GuardFound, guard-found, guard-missing}
-use Rattle.line_lists.proofs.Gather.{shrinks, folded, gather, all-of, Walk, arrived, walked, walked-end, Turned, turn-end, turn-more}
-use Rattle.line_lists.proofs.Held.{min-leb, min-ltb, all-snoc, kept, counted}
+use Rattle.line_parts.proofs.Taken.{guard-found, guard-missing}
+use Rattle.line_lists.proofs.Gather.{shrinks, gather, all-of, Walk, arrived, walked, walked-end, Turned, turn-end, turn-more}
+use Rattle.line_lists.proofs.Held.{min-leb, min-ltb, kept-more, all-more, counted}
 
 -- ---- one guard more
 
@@ -43,19 +39,12 @@ module _ (clocks : ℕ) (few : clocks ≤ 255) where
 
   one-more : (xs : List Guard) (x : Guard) → add (gatheredGuards clocks xs) x ≡ gatheredGuards clocks (xs ++ (x ∷ []))
   unfolding addGuard gatheredGuards
-  one-more xs x = λ i. record { guards = guards i; count = counted xs x i; inrange = inrange i; known = known i }
-    where
-      n : length (map heldGuard xs) ≡ length xs
-      n = length-map xs heldGuard
-
-      guards : cond (ltb (min 5 (length xs)) 4) (set (pad 4 noGuard (take 4 (map heldGuard xs))) (min 5 (length xs)) (heldGuard x)) (pad 4 noGuard (take 4 (map heldGuard xs))) ≡ pad 4 noGuard (take 4 (map heldGuard (xs ++ (x ∷ []))))
-      guards = rw (map-append heldGuard xs (x ∷ []), ← n) (kept noGuard (map heldGuard xs) (heldGuard x))
-
-      inrange : all guardInRange xs && guardInRange (heldGuard x) ≡ all guardInRange (xs ++ (x ∷ []))
-      inrange = rw (all-snoc guardInRange xs x, in-range-held x) refl
-
-      known : all (guardKnown clocks) xs && guardKnown clocks (heldGuard x) ≡ all (guardKnown clocks) (xs ++ (x ∷ []))
-      known = rw (all-snoc (guardKnown clocks) xs x, known-held clocks few x) refl
+  one-more xs x = λ i. record {
+    guards = kept-more noGuard heldGuard xs x i;
+    count = counted xs x i;
+    inrange = all-more guardInRange heldGuard in-range-held xs x i;
+    known = all-more (guardKnown clocks) heldGuard (known-held clocks few) xs x i;
+  }
 
 -- ---- the walk over the guards
 

@@ -1,11 +1,11 @@
 -- Holding a number changes no judgement of it; and lists whose first four members are kept.
-use Prim.Native.Nat.{ℕ, zero, suc, _+_, _-_, _≤_, _<_, min}
+use Prim.Native.Nat.{ℕ, suc, _+_, _-_, _≤_, _<_, min}
 use native.Mathlib.Omega.{arith}
-use mathlib.Core.Path.{_≡_, refl, sym, ap, ap₂, _∙_}
-use mathlib.Core.List.{List, [], _∷_, _++_, append-nil}
+use mathlib.Core.Path.{_≡_, refl, sym, ap, _∙_}
+use mathlib.Core.List.{List, [], _∷_, _++_, map, map-append}
 use mathlib.Core.Bool.{Bool, true, false, cond, _&&_}
 use lib.Dec.{leb, ltb}
-use lib.ListN.{length, take, set, length-append, length-take}
+use lib.ListN.{length, take, set, length-append, length-map}
 use lib.Seq.{take-all, take-append-le}
 use lib.IntN.{ℤ, pos, negsuc, natAbs}
 use borrow.Author.Tests.{leb-true, leb-false, le-leb, lt-leb, ltb-true, ltb-false, lt-ltb, le-ltb}
@@ -41,14 +41,14 @@ and-true : (a : Bool) → a && true ≡ a
 and-true true = refl
 and-true false = refl
 
-pub all-snoc : {A : Type 0} (p : A → Bool) (xs : List A) (x : A) → all p (xs ++ (x ∷ [])) ≡ all p xs && p x
+all-snoc : {A : Type 0} (p : A → Bool) (xs : List A) (x : A) → all p (xs ++ (x ∷ [])) ≡ all p xs && p x
 all-snoc p [] x = and-true (p x)
 all-snoc p (y ∷ ys) x = ap (λ b. p y && b) (all-snoc p ys x) ∙ and-assoc (p y) (all p ys) (p x)
 
 -- ---- the first four members of a list, in an array of four
 
 module _ {A : Type 0} (u : A) where
-  pub kept : (xs : List A) (x : A) → cond (ltb (min 5 (length xs)) 4) (set (pad 4 u (take 4 xs)) (min 5 (length xs)) x) (pad 4 u (take 4 xs)) ≡ pad 4 u (take 4 (xs ++ (x ∷ [])))
+  kept : (xs : List A) (x : A) → cond (ltb (min 5 (length xs)) 4) (set (pad 4 u (take 4 xs)) (min 5 (length xs)) x) (pad 4 u (take 4 xs)) ≡ pad 4 u (take 4 (xs ++ (x ∷ [])))
   kept xs x = by-test (ltb (length xs) 4)
       (λ t.
       let h = ltb-true (length xs) 4 t in
@@ -58,6 +58,13 @@ module _ {A : Type 0} (u : A) where
       (λ t.
       let h = ltb-false (length xs) 4 t in
       rw (le-ltb (min 5 (length xs)) 4 (omega arith), take-append-le 4 xs (x ∷ []) h) refl)
+
+-- the same of what stands for each member
+pub kept-more : {A : Type 0} (u : A) (h : A → A) (xs : List A) (x : A) → cond (ltb (min 5 (length xs)) 4) (set (pad 4 u (take 4 (map h xs))) (min 5 (length xs)) (h x)) (pad 4 u (take 4 (map h xs))) ≡ pad 4 u (take 4 (map h (xs ++ (x ∷ []))))
+kept-more u h xs x = rw (map-append h xs (x ∷ []), ← length-map xs h) (kept u (map h xs) (h x))
+
+pub all-more : {A : Type 0} (p : A → Bool) (h : A → A) → ((x : A) → p (h x) ≡ p x) → (xs : List A) (x : A) → all p xs && p (h x) ≡ all p (xs ++ (x ∷ []))
+all-more p h same xs x = rw (all-snoc p xs x, same x) refl
 
 pub counted : {A : Type 0} (xs : List A) (x : A) → min 5 (min 5 (length xs) + 1) ≡ min 5 (length (xs ++ (x ∷ [])))
 counted xs x = rw (length-append xs (x ∷ [])) (omega arith)

@@ -1,12 +1,11 @@
 -- The clocks of a bracket one by one; a bracket, and resets, from their parts.
-use Prim.Native.Nat.{ℕ, zero, suc, _+_, _-_, _≤_, _<_, min}
+use Prim.Native.Nat.{ℕ, _-_, _≤_, _<_, min}
 use native.Mathlib.Omega.{arith}
 use mathlib.Core.Path.{_≡_, refl, sym, ap, ap₂, _∙_}
-use mathlib.Core.List.{List, [], _∷_, _++_}
-use mathlib.Core.Bool.{Bool, true, false, cond, _&&_}
-use lib.ListN.{length, drop, length-drop}
+use mathlib.Core.List.{List, [], _∷_}
+use mathlib.Core.Bool.{true, false}
+use lib.ListN.{length, drop}
 use Rattle.pattern_text.specs.Bytes.{Bytes, bytes, Reading, got, broken}
-use Rattle.pattern_text.specs.Numeral.{numeralOf}
 use Rattle.pattern_text.specs.Form.{_▸_, _◂_, _⨾_, many, number}
 use Rattle.pattern_text.specs.Line.{bracket, resets}
 use Rattle.pattern_text.proofs.FormLaws.{many-exact}
@@ -15,17 +14,17 @@ use Rattle.text_scan.specs.declared.Found as found
 use Rattle.text_scan.specs.declared.Number as numberread
 use Rattle.text_scan.specs.Scan.{endOf, cap, wordAt, numberAt}
 use Rattle.text_scan.proofs.Position.{end-drop}
-use Rattle.text_scan.proofs.Rests.{Rests, rests-form, Numbered, numbered, no-number, word-found, word-missing, number-found, number-missing}
+use Rattle.text_scan.proofs.Rests.{rests-form, Met, numbered, no-number, word-found, word-missing, number-found, number-missing}
 use Rattle.line_lists.specs.declared.Resets.{Resets}
 use Rattle.line_lists.specs.declared.ResetsRead.{ResetsRead}
 use Rattle.line_lists.specs.declared.Bracket.{Bracket}
 use Rattle.line_parts.specs.Parts.{spacedAt}
-use Rattle.line_lists.specs.ResetList.{noResets, addReset, added, resetTurned, resetTurn, furtherIn, furtherAt, bracketIn, bracketAt, resetsIn, resetsAt}
+use Rattle.line_lists.specs.ResetList.{noResets, addReset, added, resetTurned, resetTurn, furtherIn, furtherAt, bracketIn, bracketAt, resetsAt}
 use Rattle.line_lists.proofs.Gather.{shrinks, folded, gather, Walk, arrived, walked, walked-end, Turned, turn-end, turn-more, many-got}
 
 -- ---- a space and a number
 
-pub spaced-found : (t : Bytes) (at v n : ℕ) → numberread.the-variants.Value v n ≡ spacedAt t at → Numbered t ((" " ▸ number) .read (drop at t)) v n
+pub spaced-found : (t : Bytes) (at v n : ℕ) → numberread.the-variants.Value v n ≡ spacedAt t at → Met (min cap) t ((" " ▸ number) .read (drop at t)) v n
 unfolding spacedAt
 spaced-found t at v n e = numbered t ((" " ▸ number) .read (drop at t)) v n (rests-form spaced t at) e
 
@@ -34,7 +33,7 @@ unfolding spacedAt
 spaced-missing t at e = no-number t ((" " ▸ number) .read (drop at t)) e
 
 pub spaced-small : (t : Bytes) (at v n : ℕ) → numberread.the-variants.Value v n ≡ spacedAt t at → v ≤ cap
-spaced-small t at v n e = omega (arith, spaced-found t at v n e .value)
+spaced-small t at v n e = omega (arith, spaced-found t at v n e .made)
 
 -- ---- the walk over the further clocks
 
@@ -86,7 +85,7 @@ module _ (clocks : ℕ) (t : Bytes) where
   further-turn none s e l = go (spacedAt t (s .next)) refl
     where
       go : (r : numberread.Number) → r ≡ spacedAt t (s .next) → Onward none s (resetTurned clocks s r)
-      go (numberread.the-variants.Value y n) p = let k = spaced-found t (s .next) y n p in rw (k .value) (turn-more (" " ▸ number) (add clocks) none t shorter (walkOf s) (k .number) n e l (k .is) (k .within))
+      go (numberread.the-variants.Value y n) p = let k = spaced-found t (s .next) y n p in rw (k .made) (turn-more (" " ▸ number) (add clocks) none t shorter (walkOf s) (k .raw) n e l (k .is) (k .within))
       go numberread.the-variants.Broken p = turn-end (" " ▸ number) (add clocks) none t shorter (walkOf s) e l (spaced-missing t (s .next) p)
 
   -- what a turn answers
@@ -139,7 +138,7 @@ module _ (clocks : ℕ) (t : Bytes) where
             let f = further-found s m r further in
             let w = word-found (bytes ")") t (r .next) k e in
             let q = number-found t n c m first in
-            let g : r .resets ≡ added clocks (addReset clocks noResets (min cap (q .number))) (f .clocks-read) = f .made ∙ ap (λ x. added clocks x (f .clocks-read)) (h ∙ ap₂ (addReset clocks) none (q .value)) in
+            let g : r .resets ≡ added clocks (addReset clocks noResets (min cap (q .raw))) (f .clocks-read) = f .made ∙ ap (λ x. added clocks x (f .clocks-read)) (h ∙ ap₂ (addReset clocks) none (q .made)) in
             rw (word-found (bytes " (reset ") t at n word .is, q .is, f .is, w .is, end-drop t k (w .within))
             (ap (λ x. record { found = true; resets = x; next = k }) g)
 

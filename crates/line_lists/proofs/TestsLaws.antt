@@ -1,32 +1,26 @@
 -- Tests one by one, gathered, are the tests that stand there.
-use Prim.Native.Nat.{ℕ, zero, suc, _+_, _-_, _≤_, _<_, min}
-use native.Mathlib.Omega.{arith}
+use Prim.Native.Nat.{ℕ, _+_, _-_, _≤_, _<_}
 use mathlib.Core.Path.{_≡_, refl, sym, ap, _∙_}
-use mathlib.Core.List.{List, [], _∷_, _++_, map, map-append, append-nil, append-assoc}
-use mathlib.Core.Bool.{Bool, true, false, cond, _&&_}
-use lib.Dec.{leb, ltb}
-use lib.ListN.{length, take, drop, set, length-map, length-drop}
-use lib.IntN.{ℤ}
+use mathlib.Core.List.{List, [], _∷_, _++_}
+use mathlib.Core.Bool.{true, false}
+use lib.ListN.{length, drop}
 use Rattle.pattern.specs.declared.Test.{Test}
-use Rattle.pattern.specs.Slots.{all}
 use Rattle.pattern.specs.Sound.{noTest, testInRange, testKnown}
 use Rattle.pattern_text.specs.Bytes.{Bytes, Reading, got, broken}
 use Rattle.pattern_text.specs.Form.{many}
 use Rattle.pattern_text.specs.Line.{test}
 use Rattle.pattern_text.specs.Text.{pad}
 use Rattle.pattern_text.proofs.LineLaws.{test-exact, test-long}
-use Rattle.text_scan.specs.Scan.{endOf, cap}
-use Rattle.text_scan.proofs.Position.{end-drop}
-use Rattle.text_scan.proofs.Rests.{rests-form}
+use Rattle.text_scan.specs.Scan.{endOf}
 use Rattle.line_lists.specs.declared.Tests.{Tests}
 use Rattle.line_lists.specs.declared.TestsRead.{TestsRead}
 use Rattle.line_parts.specs.declared.TestRead.{TestRead}
 use Rattle.line_parts.specs.declared.TestRead.the-variants.{Value, Broken}
-use Rattle.line_parts.specs.Parts.{heldTest, testIn, testAt}
+use Rattle.line_parts.specs.Parts.{heldTest, testAt}
 use Rattle.line_lists.specs.Lists.{noTests, addTest, gatheredTests, testTurned, testTurn, testsIn, testsAt}
-use Rattle.line_parts.proofs.Taken.{TestFound, test-found, test-missing}
-use Rattle.line_lists.proofs.Gather.{shrinks, folded, gather, all-of, Walk, arrived, walked, walked-end, Turned, turn-end, turn-more}
-use Rattle.line_lists.proofs.Held.{min-ltb, held-leb, all-snoc, kept, counted}
+use Rattle.line_parts.proofs.Taken.{test-found, test-missing}
+use Rattle.line_lists.proofs.Gather.{shrinks, gather, all-of, Walk, arrived, walked, walked-end, Turned, turn-end, turn-more}
+use Rattle.line_lists.proofs.Held.{min-ltb, held-leb, kept-more, all-more, counted}
 
 -- ---- one test more
 
@@ -44,19 +38,12 @@ module _ (channels : ℕ) (few : channels ≤ 255) where
 
   one-more : (xs : List Test) (x : Test) → add (gatheredTests channels xs) x ≡ gatheredTests channels (xs ++ (x ∷ []))
   unfolding addTest gatheredTests
-  one-more xs x = λ i. record { tests = tests i; count = counted xs x i; inrange = inrange i; known = known i }
-    where
-      n : length (map heldTest xs) ≡ length xs
-      n = length-map xs heldTest
-
-      tests : cond (ltb (min 5 (length xs)) 4) (set (pad 4 noTest (take 4 (map heldTest xs))) (min 5 (length xs)) (heldTest x)) (pad 4 noTest (take 4 (map heldTest xs))) ≡ pad 4 noTest (take 4 (map heldTest (xs ++ (x ∷ []))))
-      tests = rw (map-append heldTest xs (x ∷ []), ← n) (kept noTest (map heldTest xs) (heldTest x))
-
-      inrange : all testInRange xs && testInRange (heldTest x) ≡ all testInRange (xs ++ (x ∷ []))
-      inrange = rw (all-snoc testInRange xs x, in-range-held x) refl
-
-      known : all (testKnown channels) xs && testKnown channels (heldTest x) ≡ all (testKnown channels) (xs ++ (x ∷ []))
-      known = rw (all-snoc (testKnown channels) xs x, known-held channels few x) refl
+  one-more xs x = λ i. record {
+    tests = kept-more noTest heldTest xs x i;
+    count = counted xs x i;
+    inrange = all-more testInRange heldTest in-range-held xs x i;
+    known = all-more (testKnown channels) heldTest (known-held channels few) xs x i;
+  }
 
 -- ---- the walk over the tests
 

@@ -1,9 +1,9 @@
 -- The lists of a line at a position: tests, guards, resets. Of a list's members the first four are kept, the others are
 -- only judged.
-use Prim.Native.Nat.{ℕ, suc, _+_, min}
-use mathlib.Core.List.{List, [], _∷_, map}
-use mathlib.Core.Bool.{Bool, true, false, cond, _&&_}
-use lib.Dec.{leb, ltb}
+use Prim.Native.Nat.{ℕ, _+_, min}
+use mathlib.Core.List.{List, map}
+use mathlib.Core.Bool.{true, false, cond, _&&_}
+use lib.Dec.{ltb}
 use lib.ListN.{length, take, drop, set, replicate}
 use Rattle.pattern.specs.declared.Test.{Test}
 use Rattle.pattern.specs.declared.Guard.{Guard}
@@ -24,6 +24,7 @@ use Rattle.line_parts.specs.Parts.{heldTest, heldGuard, testAt, guardAt}
 
 -- ---- tests
 
+-- no test so far
 abbrev pub noTests : Tests
 noTests = record { tests = replicate 4 noTest; count = 0; inrange = true; known = true }
 
@@ -63,6 +64,7 @@ testsAt channels t at = testsIn channels t (many test .read (drop at t))
 
 -- ---- guards
 
+-- no guard so far
 abbrev pub noGuards : Guards
 noGuards = record { guards = replicate 4 noGuard; count = 0; inrange = true; known = true }
 

@@ -1,7 +1,7 @@
 -- The resets of an edge at a position: "at least one clock, rising, or no bracket at all".
 use Prim.Native.Nat.{ℕ, _+_, min}
 use mathlib.Core.List.{List, [], _∷_}
-use mathlib.Core.Bool.{Bool, true, false, cond, _&&_}
+use mathlib.Core.Bool.{true, false, cond, _&&_}
 use lib.Dec.{leb, ltb}
 use lib.ListN.{drop, set, replicate}
 use Rattle.pattern_text.specs.Bytes.{Bytes, Reading, got, broken}
@@ -14,6 +14,7 @@ use Rattle.line_lists.specs.declared.ResetsRead.{ResetsRead}
 use Rattle.line_lists.specs.declared.Bracket.{Bracket}
 use Rattle.line_parts.specs.Parts.{spacedAt}
 
+-- no clock so far
 abbrev pub noResets : Resets
 noResets = record { flags = replicate 4 false; least = 0; known = true }
 
@@ -50,11 +51,13 @@ abbrev pub bracketIn : (clocks : ℕ) → Bytes → Reading (ℕ × List ℕ) �
 bracketIn clocks t (got c r) = record { found = true; resets = added clocks noResets (c .0 ∷ c .1); next = endOf t r }
 bracketIn clocks t broken = record { found = false; resets = noResets; next = 0 }
 
+-- a bracket, "at least one clock"
 unfoldable pub bracketAt : (clocks : ℕ) → Bytes → ℕ → Bracket
 bracketAt clocks t at = bracketIn clocks t (bracket .read (drop at t))
 
 abbrev pub resetsIn : (clocks : ℕ) → Bytes → Reading (List ℕ) → ResetsRead
 resetsIn clocks t x = furtherIn clocks t noResets x
 
+-- "or no bracket at all"
 unfoldable pub resetsAt : (clocks : ℕ) → Bytes → ℕ → ResetsRead
 resetsAt clocks t at = resetsIn clocks t (resets .read (drop at t))

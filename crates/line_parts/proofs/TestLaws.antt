@@ -1,23 +1,22 @@
 -- A test, a guard, and a space with a number, from their parts.
 use Prim.Native.Nat.{ℕ, _≤_, min}
 use native.Mathlib.Omega.{arith}
-use mathlib.Core.Path.{_≡_, refl, sym, ap, _∙_}
-use mathlib.Core.List.{[], _∷_}
-use lib.ListN.{length, drop}
+use mathlib.Core.Path.{_≡_, refl, ap, _∙_}
+use lib.ListN.{length}
 use lib.IntN.{ℤ, pos, negsuc}
 use mir.Syntax.{w32}
 use mir.Val.{SFits, toZ, ofZ}
 use mir.Facts.{toZ-ofZ}
 use Rattle.pattern.specs.declared.Sign.{Sign}
-use Rattle.pattern_text.specs.Bytes.{Bytes, bytes, Reading, got, broken}
+use Rattle.pattern_text.specs.Bytes.{Bytes, bytes}
 use Rattle.pattern_text.specs.Form.{_▸_, _◂_, _⨾_, mapped, number}
 use Rattle.pattern_text.specs.Line.{test, guard}
 use Rattle.text_scan.specs.declared.Found as found
 use Rattle.text_scan.specs.declared.Number as numberread
 use Rattle.text_scan.specs.declared.Integer as integerread
-use Rattle.text_scan.specs.Scan.{cap, held, wordAt, numberAt, numberThenAt, integerAt}
+use Rattle.text_scan.specs.Scan.{held, wordAt, numberAt, numberThenAt, integerAt}
 use Rattle.text_scan.proofs.Position.{end-drop}
-use Rattle.text_scan.proofs.Rests.{word-found, word-missing, number-found, number-missing, then-found, then-missing, integer-found, integer-missing}
+use Rattle.text_scan.proofs.Rests.{word-found, word-missing, then-found, then-missing, integer-found, integer-missing}
 use Rattle.line_parts.specs.declared.SignRead as signread
 use Rattle.line_parts.specs.declared.TestRead as testread
 use Rattle.line_parts.specs.declared.GuardRead as guardread
@@ -65,10 +64,10 @@ module _ (t : Bytes) (at : ℕ) where
             let C = then-found (bytes " ") t n c m channel in
             let Z = integer-found t m z l bound in
             let W = word-found (bytes ")") t l k e in
-            let small : x ≡ min 255 (C .number) = omega (arith, C .value) in
-            let same : toZ w32 (ofZ w32 z) ≡ held (Z .number) = ap (λ (y : ℤ). toZ w32 (ofZ w32 y)) (Z .value) ∙ toZ-ofZ (held-fits (Z .number)) in
+            let small : x ≡ min 255 (C .raw) = omega (arith, C .made) in
+            let same : toZ w32 (ofZ w32 z) ≡ held (Z .raw) = ap (λ (y : ℤ). toZ w32 (ofZ w32 y)) (Z .made) ∙ toZ-ofZ (held-fits (Z .raw)) in
             rw (sign-found t at s n sign .is, C .is, Z .is, W .is, end-drop t k (W .within))
-            (λ i. testread.the-variants.Value (record { sign = s; channel = small i; bound = same i }) k)
+            (λ i. testread.the-variants.Value (record { sign = sign-found t at s n sign .made i; channel = small i; bound = same i }) k)
 
 -- ---- a guard
 
@@ -92,10 +91,10 @@ module _ (t : Bytes) (at : ℕ) where
       guard-is b k x y e i255 i65 =
           let C = then-found (bytes " ") t n c m clock in
           let B = then-found (bytes ")") t m b k e in
-          let small : x ≡ min 255 (C .number) = omega (arith, C .value) in
-          let low : y ≡ min 65_535 (B .number) = omega (arith, B .value) in
+          let small : x ≡ min 255 (C .raw) = omega (arith, C .made) in
+          let low : y ≡ min 65_535 (B .raw) = omega (arith, B .made) in
           rw (sign-found t at s n sign .is, C .is, B .is, end-drop t k (B .within))
-          (λ i. guardread.the-variants.Value (record { sign = s; clock = small i; bound = low i }) k)
+          (λ i. guardread.the-variants.Value (record { sign = sign-found t at s n sign .made i; clock = small i; bound = low i }) k)
 
 -- ---- a space and a number
 

@@ -7,17 +7,17 @@ use lib.ListN.{length, drop}
 use Rattle.weighting.specs.declared.Weighing.the-variants.{Margin, Sum}
 use Rattle.pattern.specs.declared.Sign.the-variants.{Less, AtMost, More, AtLeast}
 use Rattle.pattern.specs.declared.Kind.the-variants.{Start, Plain, End, Both}
-use Rattle.pattern_text.specs.Bytes.{Bytes, bytes, Reading, got, broken}
+use Rattle.pattern_text.specs.Bytes.{Bytes, bytes, Reading, got}
 use Rattle.pattern_text.specs.Form.{firstOf, oneOf}
 use Rattle.pattern_text.specs.Line.{signWord, kindWord, weighingWord, sign, kind, weighing}
 use Rattle.text_scan.specs.declared.Found.the-variants.{At, Nothing}
-use Rattle.text_scan.specs.Scan.{wordAt}
+use Rattle.text_scan.specs.Scan.{placed, wordAt}
 use Rattle.text_scan.proofs.Position.{end-drop}
 use Rattle.text_scan.proofs.Rests.{word-found, word-missing}
 use Rattle.line_parts.specs.declared.SignRead as signread
 use Rattle.line_parts.specs.declared.KindRead as kindread
 use Rattle.line_parts.specs.declared.WeighingRead as weighingread
-use Rattle.line_parts.specs.Parts.{placed, signIn, signAt, kindIn, kindAt, weighingIn, weighingAt}
+use Rattle.line_parts.specs.Parts.{signAt, kindAt, weighingAt}
 
 -- what is read up to a position
 pub placed-is : {A R : Type 0} (value : A → ℕ → R) (none : R) (t : Bytes) (x : Reading A) (a : A) (n : ℕ) → x ≡ got a (drop n t) → n ≤ length t → value a n ≡ placed value none t x

@@ -1,28 +1,22 @@
 -- What reading a part of a line at a position finds: what the definitions of crate pattern_text read from there on, with
 -- numbers held so that they fit their types, and the position of the rest.
 use Prim.Native.Nat.{ℕ, min}
-use mathlib.Core.List.{[], _∷_}
 use lib.ListN.{drop}
 use Rattle.weighting.specs.declared.Weighing.{Weighing}
 use Rattle.pattern.specs.declared.Sign.{Sign}
 use Rattle.pattern.specs.declared.Kind.{Kind}
 use Rattle.pattern.specs.declared.Test.{Test}
 use Rattle.pattern.specs.declared.Guard.{Guard}
-use Rattle.pattern_text.specs.Bytes.{Bytes, Reading, got, broken}
+use Rattle.pattern_text.specs.Bytes.{Bytes, Reading}
 use Rattle.pattern_text.specs.Form.{_▸_, number}
 use Rattle.pattern_text.specs.Line.{sign, kind, weighing, test, guard}
 use Rattle.text_scan.specs.declared.Number.{Number}
-use Rattle.text_scan.specs.Scan.{endOf, held, numberIn}
+use Rattle.text_scan.specs.Scan.{placed, held, numberIn}
 use Rattle.line_parts.specs.declared.SignRead as signread
 use Rattle.line_parts.specs.declared.KindRead as kindread
 use Rattle.line_parts.specs.declared.WeighingRead as weighingread
 use Rattle.line_parts.specs.declared.TestRead as testread
 use Rattle.line_parts.specs.declared.GuardRead as guardread
-
--- a value with the position of the rest
-abbrev pub placed : {A R : Type 0} → (A → ℕ → R) → R → Bytes → Reading A → R
-placed value none t (got a r) = value a (endOf t r)
-placed value none t broken = none
 
 -- ---- words
 

@@ -1,9 +1,9 @@
 -- The three kinds of line, from their parts.
-use Prim.Native.Nat.{ℕ, _≤_, _<_, min}
+use Prim.Native.Nat.{ℕ, _≤_}
 use native.Mathlib.Omega.{arith}
 use mathlib.Core.Path.{_≡_, refl, sym, ap, _∙_}
 use mathlib.Core.List.{List, [], _∷_}
-use mathlib.Core.Bool.{Bool, true, false}
+use mathlib.Core.Bool.{true, false}
 use lib.ListN.{length, drop}
 use Rattle.weighting.specs.declared.Weighing.{Weighing}
 use Rattle.pattern.specs.declared.Kind.{Kind}
@@ -17,7 +17,7 @@ use Rattle.pattern_text.proofs.FormLaws.{many-exact}
 use Rattle.pattern_text.proofs.LineLaws.{test-exact, test-long, guard-exact, guard-long, resets-exact}
 use Rattle.text_scan.specs.declared.Found as found
 use Rattle.text_scan.specs.declared.Number as numberread
-use Rattle.text_scan.specs.Scan.{endOf, cap, wordAt, numberAt, numberThenAt}
+use Rattle.text_scan.specs.Scan.{wordAt, numberAt, numberThenAt}
 use Rattle.text_scan.proofs.Position.{end-drop}
 use Rattle.text_scan.proofs.Rests.{rests-form, word-found, word-missing, number-found, number-missing, then-found, then-missing}
 use Rattle.line_parts.specs.declared.KindRead as kindread
@@ -135,7 +135,7 @@ module _ (t : Bytes) (at : ℕ) where
               header-is k e =
                   let W = word-found (bytes "\n") t (n5) k e in
                   rw (word-found (bytes "(pattern ") t (at) n0 word .is, weighing-found t (n0) v1 n1 weighing .is, then-found (bytes " ") t (n1) v2 n2 channels .is, then-found (bytes " ") t (n2) v3 n3 clocks .is, then-found (bytes " ") t (n3) v4 n4 low .is, then-found (bytes ")") t (n4) v5 n5 high .is, W .is, end-drop t k (W .within))
-                  (λ i. headerread.the-variants.Value (record { weighing = v1; channels = then-found (bytes " ") t n1 v2 n2 channels .value i; clocks = then-found (bytes " ") t n2 v3 n3 clocks .value i; low = then-found (bytes " ") t n3 v4 n4 low .value i; high = then-found (bytes ")") t n4 v5 n5 high .value i }) k)
+                  (λ i. headerread.the-variants.Value (record { weighing = weighing-found t n0 v1 n1 weighing .made i; channels = then-found (bytes " ") t n1 v2 n2 channels .made i; clocks = then-found (bytes " ") t n2 v3 n3 clocks .made i; low = then-found (bytes " ") t n3 v4 n4 low .made i; high = then-found (bytes ")") t n4 v5 n5 high .made i }) k)
 
 -- ---- a place's line
 
@@ -165,7 +165,7 @@ module _ (channels : ℕ) (t : Bytes) (at : ℕ) (z : Tests) (none : z ≡ noTes
           place-is k e =
               let W = word-found (bytes "\n") t (n3) k e in
               rw (word-found (bytes "(place ") t (at) n0 word .is, kind-found t (n0) v1 n1 kind .is, tests-found channels t (n1) r2 tests .is, word-found (bytes ")") t (r2 .next) n3 end .is, W .is, end-drop t k (W .within))
-              (ap (λ x. record { found = true; kind = v1; tests = x; next = k }) (tests-found channels t n1 r2 tests .made))
+              (λ i. record { found = true; kind = kind-found t n0 v1 n1 kind .made i; tests = tests-found channels t n1 r2 tests .made i; next = k })
 
 -- ---- an edge's line
 
@@ -201,4 +201,4 @@ module _ (clocks : ℕ) (t : Bytes) (at : ℕ) (g : Guards) (noneG : g ≡ noGua
               edge-is k e =
                   let W = word-found (bytes "\n") t (n5) k e in
                   rw (word-found (bytes "(edge ") t (at) n0 word .is, then-found (bytes " ") t (n0) v1 n1 from .is, number-found t (n1) v2 n2 to .is, guards-found clocks t (n2) r3 guards .is, resets-found clocks t (r3 .next) r4 resets .is, word-found (bytes ")") t (r4 .next) n5 end .is, W .is, end-drop t k (W .within))
-                  (λ i. record { found = true; from = then-found (bytes " ") t n0 v1 n1 from .value i; to = number-found t n1 v2 n2 to .value i; guards = guards-found clocks t n2 r3 guards .made i; resets = resets-found clocks t (r3 .next) r4 resets .made i; next = k })
+                  (λ i. record { found = true; from = then-found (bytes " ") t n0 v1 n1 from .made i; to = number-found t n1 v2 n2 to .made i; guards = guards-found clocks t n2 r3 guards .made i; resets = resets-found clocks t (r3 .next) r4 resets .made i; next = k })

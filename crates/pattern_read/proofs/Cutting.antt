@@ -1,17 +1,17 @@
 -- A line that is read at a position, with its line feed, is the line that is cut off there; and where none can be read
 -- that may stand there, the form is broken.
-use Prim.Native.Nat.{ℕ, _+_, _≤_, _<_}
+use Prim.Native.Nat.{_+_, _<_}
 use native.Mathlib.Omega.{arith}
 use mathlib.Core.Path.{_≡_, refl, sym, ap, _∙_}
-use mathlib.Core.List.{List, [], _∷_, _++_, append-assoc}
+use mathlib.Core.List.{[], _∷_, _++_, append-assoc}
 use mathlib.Core.Option.{Option, none, some}
 use lib.ListN.{length, length-append}
 use Rattle.pattern.specs.declared.Refusal.the-variants.{BrokenForm}
-use Rattle.pattern_text.specs.Bytes.{Bytes, bytes, Reading, got, broken}
+use Rattle.pattern_text.specs.Bytes.{Bytes, bytes, got}
 use Rattle.pattern_text.specs.Form.{Form, giving, strip, _◂_}
 use Rattle.pattern_text.specs.Line.{Raw, renderLine, lineOf}
 use Rattle.pattern_text.specs.Fault.{Doc, stepOf, stop}
-use Rattle.pattern_text.specs.Text.{Answer, refused, Lines, line, rest, linesOf, finish, meant, onward, readLines}
+use Rattle.pattern_text.specs.Text.{refused, Lines, line, rest, linesOf, finish, meant, onward, readLines}
 use Rattle.pattern_text.proofs.FormLaws.{Exact, Any, inv, giving-inv, strip-sound, strip-complete}
 use Rattle.pattern_text.proofs.LineLaws.{form}
 use Rattle.pattern_text.proofs.Cut.{first-line, joined, joined-lines}

@@ -1,21 +1,18 @@
 -- A line without a fault, put into the pattern, gives the pattern of what was read with it.
-use Prim.Native.Nat.{ℕ, suc, _+_, _≤_, _<_, min}
+use Prim.Native.Nat.{ℕ, _+_, _≤_, _<_, min}
 use native.Mathlib.Omega.{arith}
-use mathlib.Core.Path.{_≡_, refl, sym, ap, ap₂, _∙_}
+use mathlib.Core.Path.{_≡_, refl, sym, ap, _∙_}
 use mathlib.Core.List.{List, [], _∷_, _++_, map, map-append}
-use mathlib.Core.Option.{Option, none, some}
-use mathlib.Core.Bool.{Bool, true, false, cond, _&&_}
+use mathlib.Core.Option.{none}
+use mathlib.Core.Bool.{true, _&&_}
 use lib.Dec.{leb, ltb}
 use lib.ListN.{length, set, length-append, length-map}
 use borrow.Author.Tests.{leb-true, ltb-true, lt-ltb}
-use Rattle.pattern.specs.declared.Place.{Place}
-use Rattle.pattern.specs.declared.Edge.{Edge}
-use Rattle.pattern.specs.declared.Pattern.{Pattern}
 use Rattle.pattern.specs.Slots.{all}
-use Rattle.pattern.specs.Sound.{noPlace, noEdge, noGuard, testInRange, testKnown, guardInRange, guardKnown, headerInRange}
+use Rattle.pattern.specs.Sound.{noPlace, noEdge, testInRange, testKnown, guardInRange, guardKnown, headerInRange}
 use Rattle.pattern_text.specs.Line.{Header, PlaceLine, EdgeLine}
-use Rattle.pattern_text.specs.Fault.{Doc, judged, rising, edgeKnown, headerFault, placeFault, edgeFault, withPlace, withEdge}
-use Rattle.pattern_text.specs.Text.{pad, flags, placeOf, edgeOf, patternOf}
+use Rattle.pattern_text.specs.Fault.{Doc, rising, edgeKnown, placeFault, edgeFault, withPlace, withEdge}
+use Rattle.pattern_text.specs.Text.{pad, placeOf, edgeOf, patternOf}
 use Rattle.pattern_text.proofs.Tools.{both, four}
 use Rattle.pattern_text.proofs.ForCode.{pad-snoc}
 use Rattle.pattern_text.proofs.Runs.{clear, headFits, Fits}
@@ -26,7 +23,7 @@ use Rattle.line_lists.specs.ResetList.{noResets, added}
 use Rattle.line_read.specs.Lines.{heldHeader}
 use Rattle.line_lists.proofs.Held.{min-ltb}
 use Rattle.pattern_read.specs.Reading.{noPattern}
-use Rattle.pattern_read.specs.Turn.{verdict, verdictOf, headerFine, headedAt, putPlace, placeVerdict, placeIn, putEdge, edgeVerdict, edgeIn}
+use Rattle.pattern_read.specs.Turn.{verdict, verdictOf, headerFine, headedAt, putPlace, placeVerdict, placeFrom, putEdge, edgeVerdict, edgeFrom}
 use Rattle.pattern_read.proofs.Judgement.{InRange, ranges}
 use Rattle.pattern_read.proofs.HeldLines.{header-held, few-held, place-held, guards-held, resets-held, resets-known}
 
@@ -86,7 +83,7 @@ module _ (d : Doc) (fits : Fits d) (l : PlaceLine) where
   unfolding placeVerdict verdictOf gatheredTests placeFault
   place-judged = rw (few-held (length (l .tests))) refl
 
-  pub place-filled : placeFault d l ≡ none → putPlace (patternOf d) (placeIn (l .kind) (gatheredTests (d .head .channels) (l .tests))) ≡ patternOf (withPlace d l)
+  pub place-filled : placeFault d l ≡ none → putPlace (patternOf d) (placeFrom (l .kind) (gatheredTests (d .head .channels) (l .tests))) ≡ patternOf (withPlace d l)
   unfolding placeFault
   place-filled e =
       let c = clear (ltb (length (d .places)) 16 && leb (length (l .tests)) 4) (all testInRange (l .tests)) (all (testKnown (d .head .channels)) (l .tests)) e in
@@ -116,8 +113,8 @@ edge-put d e h = rw (lt-ltb (length (d .edges)) 32 h) (λ i. record {
 abbrev pub edgeRead : (clocks : ℕ) → EdgeLine → ℕ → EdgeRead
 edgeRead clocks e n = record { found = true; from = min cap (e .from); to = min cap (e .to); guards = gatheredGuards clocks (e .guards); resets = added clocks noResets (e .resets); next = n }
 
-edge-held : (d : Doc) → Fits d → (e : EdgeLine) (n : ℕ) → length (e .guards) ≤ 4 → all guardInRange (e .guards) ≡ true → all (guardKnown (d .head .clocks)) (e .guards) ≡ true → e .from < length (d .places) → e .to < length (d .places) → edgeIn (edgeRead (d .head .clocks) e n) ≡ edgeOf e
-unfolding edgeIn edgeOf gatheredGuards
+edge-held : (d : Doc) → Fits d → (e : EdgeLine) (n : ℕ) → length (e .guards) ≤ 4 → all guardInRange (e .guards) ≡ true → all (guardKnown (d .head .clocks)) (e .guards) ≡ true → e .from < length (d .places) → e .to < length (d .places) → edgeFrom (edgeRead (d .head .clocks) e n) ≡ edgeOf e
+unfolding edgeFrom edgeOf gatheredGuards
 edge-held d fits e n h r k p q =
     let s = small d fits in
     let f = fits .few in
@@ -139,7 +136,7 @@ module _ (d : Doc) (fits : Fits d) (e : EdgeLine) (n : ℕ) where
         resets-known (d .head .clocks) (omega arith) (e .resets),
       ) refl
 
-  pub edge-filled : edgeFault d e ≡ none → putEdge (patternOf d) (edgeIn (edgeRead (d .head .clocks) e n)) ≡ patternOf (withEdge d e)
+  pub edge-filled : edgeFault d e ≡ none → putEdge (patternOf d) (edgeFrom (edgeRead (d .head .clocks) e n)) ≡ patternOf (withEdge d e)
   unfolding edgeFault edgeKnown
   edge-filled z =
       let c = clear (ltb (length (d .edges)) 32 && leb (length (e .guards)) 4) (all guardInRange (e .guards)) (edgeKnown (d .head .clocks) (length (d .places)) e) z in

@@ -1,22 +1,22 @@
 -- What a line says, held, is judged as the line is; and where it has no fault, it is what the line says.
-use Prim.Native.Nat.{ℕ, zero, suc, _+_, _-_, _≤_, _<_, min}
+use Prim.Native.Nat.{ℕ, zero, suc, _-_, _≤_, min}
 use native.Mathlib.Omega.{arith}
 use native.Mathlib.Numerals.{add-one}
 use mathlib.Core.Path.{_≡_, refl, sym, ap, ap₂, _∙_}
-use mathlib.Core.List.{List, [], _∷_, _++_, map}
-use mathlib.Core.Bool.{Bool, true, false, cond, _&&_, _||_}
-use lib.Dec.{leb, ltb, eqb}
-use lib.ListN.{length, take, set, replicate}
+use mathlib.Core.List.{List, [], _∷_, map}
+use mathlib.Core.Bool.{Bool, true, false, _&&_, _||_}
+use lib.Dec.{leb, ltb}
+use lib.ListN.{length, take, set}
 use lib.Seq.{take-all}
 use lib.IntN.{ℤ, pos, negsuc, natAbs}
-use borrow.Author.Tests.{leb-true, leb-false, le-leb, lt-leb, ltb-true, ltb-false, lt-ltb, le-ltb, eqb-true, eq-eqb, ne-eqb}
+use borrow.Author.Tests.{leb-true, leb-false, le-leb, lt-leb, ltb-true, lt-ltb, le-ltb, ne-eqb}
 use Rattle.pattern.specs.declared.Test.{Test}
 use Rattle.pattern.specs.declared.Guard.{Guard}
 use Rattle.pattern.specs.Slots.{all, within}
 use Rattle.pattern.specs.Sound.{noTest, noGuard, testInRange, testKnown, guardInRange, guardKnown, headerInRange}
 use Rattle.pattern_text.specs.Line as line
 use Rattle.pattern_text.specs.Fault.{rising}
-use Rattle.pattern_text.specs.Text.{pad, among, flags, placeOf, edgeOf}
+use Rattle.pattern_text.specs.Text.{pad, among, flags, placeOf}
 use Rattle.pattern_text.proofs.Tools.{both, by-test}
 use Rattle.text_scan.specs.Scan.{cap, held}
 use Rattle.line_lists.specs.declared.Resets.{Resets}
@@ -24,7 +24,7 @@ use Rattle.line_parts.specs.Parts.{heldTest, heldGuard}
 use Rattle.line_lists.specs.Lists.{gatheredTests, gatheredGuards}
 use Rattle.line_lists.specs.ResetList.{noResets, addReset, added}
 use Rattle.line_lists.proofs.Held.{min-leb, min-ltb}
-use Rattle.pattern_read.specs.Turn.{placeIn}
+use Rattle.pattern_read.specs.Turn.{placeFrom}
 
 -- ---- the header
 
@@ -81,8 +81,8 @@ guard-same clocks few x r k =
     λ i. record { sign = x .sign; clock = c i; bound = b i }
 
 -- a place's line without a fault
-pub place-held : (channels : ℕ) → channels ≤ 255 → (l : line.PlaceLine) → length (l .tests) ≤ 4 → all testInRange (l .tests) ≡ true → all (testKnown channels) (l .tests) ≡ true → placeIn (l .kind) (gatheredTests channels (l .tests)) ≡ placeOf l
-unfolding placeIn gatheredTests placeOf
+pub place-held : (channels : ℕ) → channels ≤ 255 → (l : line.PlaceLine) → length (l .tests) ≤ 4 → all testInRange (l .tests) ≡ true → all (testKnown channels) (l .tests) ≡ true → placeFrom (l .kind) (gatheredTests channels (l .tests)) ≡ placeOf l
+unfolding placeFrom gatheredTests placeOf
 place-held channels few l n r k =
     let same = map-same heldTest testInRange (testKnown channels) (test-same channels few) (l .tests) r k in
     let c : min 5 (length (l .tests)) ≡ length (l .tests) = omega arith in

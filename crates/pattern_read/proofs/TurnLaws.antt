@@ -1,8 +1,7 @@
 -- A turn of the walk, from what the functions that it calls answer.
 use Prim.Native.Nat.{ℕ, _<_, _≤_}
-use mathlib.Core.Path.{_≡_, refl, sym, ap, ap₂, _∙_}
-use mathlib.Core.Bool.{Bool, true, false, cond, _&&_}
-use lib.Dec.{ltb}
+use mathlib.Core.Path.{_≡_, sym, ap, _∙_}
+use mathlib.Core.Bool.{Bool, true, false, cond}
 use lib.ListN.{length}
 use borrow.Author.Tests.{lt-ltb, le-ltb}
 use Rattle.pattern.specs.declared.Refusal.{Refusal}
@@ -20,7 +19,7 @@ use Rattle.pattern_read.specs.declared.Stage as stage
 use Rattle.pattern_read.specs.declared.State.{State}
 use Rattle.pattern_read.specs.declared.PatternRead.{PatternRead}
 use Rattle.pattern_read.specs.declared.Verdict as verdict
-use Rattle.pattern_read.specs.Turn.{refusedAt, headerFine, headedAt, headerTurned, headerTurn, putPlace, putEdge, ruled, placeVerdict, placeIn, placeState, edgeVerdict, edgeIn, edgeState, edgeTurn, placeTurn, turned, turnOf, refusedOf, settledOf, finished, finishOf}
+use Rattle.pattern_read.specs.Turn.{refusedAt, headerFine, headedAt, headerTurned, headerTurn, putPlace, putEdge, ruled, placeVerdict, placeFrom, placeState, edgeVerdict, edgeFrom, edgeState, edgeTurn, placeTurn, turned, turnOf, refusedOf, settledOf, finished, finishOf}
 
 yes : {A : Type 0} (b : Bool) (x y r : A) → b ≡ true → r ≡ x → r ≡ cond b x y
 yes b x y r e h = rw e h
@@ -47,11 +46,11 @@ module _ (t : Bytes) (at : ℕ) (r : State) where
 module _ (end : ℕ) (p : Pattern) (line : PlaceRead) where
   pub place-faulty : (x : Refusal) (r : State) → verdict.the-variants.Faulty x ≡ placeVerdict (p .placecount) (line .tests) → r ≡ refusedAt end x → r ≡ placeState end p line
   unfolding placeState
-  place-faulty x r e h = h ∙ ap (λ v. ruled end v (record { at = line .next; stage = stage.the-variants.Places; pattern = putPlace p (placeIn (line .kind) (line .tests)) })) e
+  place-faulty x r e h = h ∙ ap (λ v. ruled end v (record { at = line .next; stage = stage.the-variants.Places; pattern = putPlace p (placeFrom (line .kind) (line .tests)) })) e
 
-  pub place-good : (l : Place) (q : Pattern) → verdict.the-variants.Fine ≡ placeVerdict (p .placecount) (line .tests) → l ≡ placeIn (line .kind) (line .tests) → q ≡ putPlace p l → record { at = line .next; stage = stage.the-variants.Places; pattern = q } ≡ placeState end p line
+  pub place-good : (l : Place) (q : Pattern) → verdict.the-variants.Fine ≡ placeVerdict (p .placecount) (line .tests) → l ≡ placeFrom (line .kind) (line .tests) → q ≡ putPlace p l → record { at = line .next; stage = stage.the-variants.Places; pattern = q } ≡ placeState end p line
   unfolding placeState
-  place-good l q e g h = ap (λ q. record { at = line .next; stage = stage.the-variants.Places; pattern = q }) (h ∙ ap (putPlace p) g) ∙ ap (λ v. ruled end v (record { at = line .next; stage = stage.the-variants.Places; pattern = putPlace p (placeIn (line .kind) (line .tests)) })) e
+  place-good l q e g h = ap (λ q. record { at = line .next; stage = stage.the-variants.Places; pattern = q }) (h ∙ ap (putPlace p) g) ∙ ap (λ v. ruled end v (record { at = line .next; stage = stage.the-variants.Places; pattern = putPlace p (placeFrom (line .kind) (line .tests)) })) e
 
 -- ---- an edge's line
 
@@ -62,11 +61,11 @@ module _ (end : ℕ) (p : Pattern) (line : EdgeRead) where
 
   pub edge-faulty : (x : Refusal) (r : State) → 1 ≤ p .placecount → verdict.the-variants.Faulty x ≡ edgeVerdict (p .placecount) (p .edgecount) line → r ≡ refusedAt end x → r ≡ edgeState end p line
   unfolding edgeState
-  edge-faulty x r k e h = rw (le-ltb (p .placecount) 1 k) (h ∙ ap (λ v. ruled end v (record { at = line .next; stage = stage.the-variants.Edges; pattern = putEdge p (edgeIn line) })) e)
+  edge-faulty x r k e h = rw (le-ltb (p .placecount) 1 k) (h ∙ ap (λ v. ruled end v (record { at = line .next; stage = stage.the-variants.Edges; pattern = putEdge p (edgeFrom line) })) e)
 
-  pub edge-good : (l : Edge) (q : Pattern) → 1 ≤ p .placecount → verdict.the-variants.Fine ≡ edgeVerdict (p .placecount) (p .edgecount) line → l ≡ edgeIn line → q ≡ putEdge p l → record { at = line .next; stage = stage.the-variants.Edges; pattern = q } ≡ edgeState end p line
+  pub edge-good : (l : Edge) (q : Pattern) → 1 ≤ p .placecount → verdict.the-variants.Fine ≡ edgeVerdict (p .placecount) (p .edgecount) line → l ≡ edgeFrom line → q ≡ putEdge p l → record { at = line .next; stage = stage.the-variants.Edges; pattern = q } ≡ edgeState end p line
   unfolding edgeState
-  edge-good l q k e g h = rw (le-ltb (p .placecount) 1 k) (ap (λ q. record { at = line .next; stage = stage.the-variants.Edges; pattern = q }) (h ∙ ap (putEdge p) g) ∙ ap (λ v. ruled end v (record { at = line .next; stage = stage.the-variants.Edges; pattern = putEdge p (edgeIn line) })) e)
+  edge-good l q k e g h = rw (le-ltb (p .placecount) 1 k) (ap (λ q. record { at = line .next; stage = stage.the-variants.Edges; pattern = q }) (h ∙ ap (putEdge p) g) ∙ ap (λ v. ruled end v (record { at = line .next; stage = stage.the-variants.Edges; pattern = putEdge p (edgeFrom line) })) e)
 
 -- ---- a line of either kind
 

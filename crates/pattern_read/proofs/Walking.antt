@@ -1,39 +1,34 @@
 -- The walk from line to line stands, at every turn, where the definition's reading stands.
 use Prim.Native.Nat.{ℕ, suc, _+_, _-_, _≤_, _<_}
 use native.Mathlib.Omega.{arith}
-use mathlib.Core.Path.{_≡_, refl, sym, ap, ap₂, subst, _∙_}
+use mathlib.Core.Path.{_≡_, refl, sym, ap, _∙_}
 use mathlib.Core.List.{List, [], _∷_, _++_}
 use mathlib.Core.Option.{Option, none, some}
 use mathlib.Core.Bool.{Bool, true, false, cond}
-use lib.Dec.{leb, ltb}
+use lib.Dec.{ltb}
 use lib.ListN.{length, drop, length-drop, drop-of-length-le}
-use borrow.Author.Tests.{lt-ltb, le-ltb}
+use borrow.Author.Tests.{le-ltb}
 use Rattle.pattern.specs.declared.Refusal.{Refusal}
 use Rattle.pattern.specs.declared.Refusal.the-variants.{BrokenForm, OutOfRange}
-use Rattle.pattern.specs.declared.Pattern.{Pattern}
 use Rattle.pattern.specs.Sound.{headerInRange}
 use Rattle.pattern_text.specs.Bytes.{Bytes, bytes, Reading, got, broken}
 use Rattle.pattern_text.specs.Form.{_◂_}
 use Rattle.pattern_text.specs.Line.{Header, PlaceLine, EdgeLine, Raw, header, place, edge, renderLine, headerLine, placeLine, edgeLine}
-use Rattle.pattern_text.specs.Fault.{Doc, judged, headerFault, placeFault, edgeFault, Step, next, stop, unless, isEmpty, withPlace, withEdge, stepOf}
+use Rattle.pattern_text.specs.Fault.{Doc, judged, headerFault, placeFault, edgeFault, next, stop, unless, isEmpty, withPlace, withEdge, stepOf}
 use Rattle.pattern_text.specs.Text.{Answer, accepted, refused, linesOf, patternOf, finish, onward, readLines}
 use Rattle.pattern_text.proofs.Tools.{both, by-test}
 use Rattle.pattern_text.proofs.LineLaws.{header-exact, place-exact, edge-exact}
-use Rattle.pattern_text.proofs.Runs.{clear, Fits, Before, Stepped, step-sound}
-use Rattle.text_scan.specs.Scan.{endOf}
+use Rattle.pattern_text.proofs.Runs.{clear, Fits, Before, step-sound}
+use Rattle.text_scan.specs.Scan.{endOf, placed}
 use Rattle.text_scan.proofs.Position.{rest-at}
 use Rattle.line_read.specs.declared.HeaderRead as headerread
-use Rattle.line_read.specs.declared.PlaceRead.{PlaceRead}
-use Rattle.line_read.specs.declared.EdgeRead.{EdgeRead}
-use Rattle.line_parts.specs.Parts.{placed}
 use Rattle.line_lists.specs.Lists.{gatheredTests}
 use Rattle.line_read.specs.Lines.{heldHeader, headerAt, placeIn, placeAt, edgeIn, edgeAt}
 use Rattle.pattern_read.specs.declared.Stage as stage
 use Rattle.pattern_read.specs.declared.State.{State}
-use Rattle.pattern_read.specs.declared.PatternRead.{PatternRead}
 use Rattle.pattern_read.specs.Reading.{readingOf}
 use Rattle.pattern_read.specs.Turn as turns
-use Rattle.pattern_read.specs.Turn.{refusedAt, verdict, headerFine, headedAt, headerTurn, ruled, putPlace, putEdge, placeState, edgeState, edgeTurn, placeTurn, turned, turnOf, refusedOf, settledOf, finished, finishOf, startState}
+use Rattle.pattern_read.specs.Turn.{refusedAt, verdict, headerFine, headedAt, headerTurn, ruled, putPlace, putEdge, placeState, edgeState, edgeTurn, placeTurn, turnOf, refusedOf, settledOf, finishOf, startState}
 use Rattle.pattern_read.proofs.Cutting.{ended-sound, ended-complete, ended-shorter, line-there, line-absent}
 use Rattle.pattern_read.proofs.Filling.{edgeRead, headed, header-same, header-filled, place-judged, place-filled, edge-judged, edge-filled}
 
@@ -138,7 +133,7 @@ module _ (t : Bytes) (a : Answer) (at : ℕ) (inside : at < length t) where
         late h =
             let s : stepOf (some d) (edge e) ≡ unless (edgeFault d e) (withEdge d e) = rw (empty-is (d .places), h) refl in
             rw (h, edge-judged d fits e (endOf t r))
-            (ruled-on (edgeFault d e) (some d) (edge e) (withEdge d e) (record { at = endOf t r; stage = stage.the-variants.Edges; pattern = putEdge (patternOf d) (turns.edgeIn (edgeRead (d .head .clocks) e (endOf t r))) }) r fits s
+            (ruled-on (edgeFault d e) (some d) (edge e) (withEdge d e) (record { at = endOf t r; stage = stage.the-variants.Edges; pattern = putEdge (patternOf d) (turns.edgeFrom (edgeRead (d .head .clocks) e (endOf t r))) }) r fits s
             (answer ∙ ap (λ x. onward x (λ c. readLines (some c) (linesOf r))) s)
             (λ z. edge-filled d fits e (endOf t r) z) (rw (not-empty (d .edges) e) refl) refl
             (rest-at t at (edgeLine .write e ++ bytes "\n") r sound)
@@ -165,7 +160,7 @@ module _ (t : Bytes) (a : Answer) (at : ℕ) (inside : at < length t) where
         let sound = ended-sound place-exact (drop at t) l r p in
         let s : stepOf (some d) (place l) ≡ unless (placeFault d l) (withPlace d l) = rw h refl in
         rw (place-judged d fits l)
-        (ruled-on (placeFault d l) (some d) (place l) (withPlace d l) (record { at = endOf t r; stage = stage.the-variants.Places; pattern = putPlace (patternOf d) (turns.placeIn (l .kind) (gatheredTests (d .head .channels) (l .tests))) }) r fits s
+        (ruled-on (placeFault d l) (some d) (place l) (withPlace d l) (record { at = endOf t r; stage = stage.the-variants.Places; pattern = putPlace (patternOf d) (turns.placeFrom (l .kind) (gatheredTests (d .head .channels) (l .tests))) }) r fits s
         (left ∙ ap (λ (x : Bytes). readLines (some d) (linesOf x)) sound ∙ line-there (some d) (place l) r ∙ ap (λ x. onward x (λ c. readLines (some c) (linesOf r))) s)
         (λ z. place-filled d fits l z) (rw h refl) refl
         (rest-at t at (placeLine .write l ++ bytes "\n") r sound)

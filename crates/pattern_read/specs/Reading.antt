@@ -1,11 +1,10 @@
--- What `read` answers: document 01's answer to the text, "a value that must stand beside it is zeros throughout" at a refusal.
+-- What `read` answers: the answer of crate pattern_text's `readOf`. At a refusal "a value that must stand beside it is
+-- zeros throughout".
 use lib.ListN.{replicate}
 use Rattle.weighting.specs.declared.Weighing.the-variants.{Margin}
 use Rattle.pattern.specs.declared.Pattern.{Pattern}
-use Rattle.pattern.specs.declared.Refusal.{Refusal}
 use Rattle.pattern.specs.Sound.{noPlace, noEdge}
 use Rattle.pattern_text.specs.Text.{Answer, accepted, refused}
-use Rattle.pattern_read.specs.declared.Outcome.{Outcome}
 use Rattle.pattern_read.specs.declared.Outcome.the-variants.{Accepted, Refused}
 use Rattle.pattern_read.specs.declared.PatternRead.{PatternRead}
 
@@ -23,6 +22,7 @@ noPattern = record {
   edges = replicate 32 noEdge;
 }
 
+-- the answer by its cause; `numberOf` gives document 01's number of each
 abbrev pub readingOf : Answer → PatternRead
 readingOf (accepted p) = record { outcome = Accepted; pattern = p }
 readingOf (refused r) = record { outcome = Refused r; pattern = noPattern }

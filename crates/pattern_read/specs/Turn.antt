@@ -1,10 +1,9 @@
 -- The walk from line to line, for the contracts of the functions below `read`.
 use Prim.Native.Nat.{ℕ, _+_, min}
-use mathlib.Core.List.{List, [], _∷_}
 use mathlib.Core.Option.{Option, none, some}
-use mathlib.Core.Bool.{Bool, true, false, cond, _&&_}
-use lib.Dec.{leb, ltb}
-use lib.ListN.{length, set, drop}
+use mathlib.Core.Bool.{Bool, cond, _&&_}
+use lib.Dec.{ltb}
+use lib.ListN.{length, set}
 use Rattle.pattern.specs.declared.Refusal.{Refusal}
 use Rattle.pattern.specs.declared.Refusal.the-variants.{BrokenForm, OutOfRange}
 use Rattle.pattern.specs.declared.Kind.{Kind}
@@ -12,7 +11,7 @@ use Rattle.pattern.specs.declared.Place.{Place}
 use Rattle.pattern.specs.declared.Edge.{Edge}
 use Rattle.pattern.specs.declared.Pattern.{Pattern}
 use Rattle.pattern.specs.Sound.{headerInRange}
-use Rattle.pattern_text.specs.Bytes.{Bytes, Reading, got, broken}
+use Rattle.pattern_text.specs.Bytes.{Bytes}
 use Rattle.pattern_text.specs.Fault.{judged}
 use Rattle.pattern_text.specs.Text.{accepted, refused}
 use Rattle.line_read.specs.declared.Header.{Header}
@@ -34,18 +33,22 @@ use Rattle.pattern_read.specs.declared.PatternRead.{PatternRead}
 unfoldable pub refusedAt : ℕ → Refusal → State
 refusedAt end r = record { at = end; stage = stage.the-variants.Refused r; pattern = noPattern }
 
+-- the fault of a line, as the code has it
 abbrev pub verdict : Option Refusal → Verdict
 verdict none = Fine
 verdict (some r) = Faulty r
 
+-- 4, 3, 5, in this order
 unfoldable pub verdictOf : (few inrange known : Bool) → Verdict
 verdictOf few inrange known = verdict (judged few inrange known)
 
 -- ---- the header
 
+-- "channels 1 to 8; clocks 0 to 4; the window's low, 1 to 4,095; its high, low to 4,095"
 unfoldable pub headerFine : Header → Bool
 headerFine h = headerInRange (h .channels) (h .clocks) (h .low) (h .high)
 
+-- a pattern of a header alone
 unfoldable pub headedAt : Header → ℕ → State
 headedAt h next = record {
   at = next;
@@ -105,36 +108,42 @@ abbrev pub ruled : ℕ → Verdict → State → State
 ruled end Fine s = s
 ruled end (Faulty r) s = refusedAt end r
 
+-- "1 to 16 places .. with 0 to 4 tests", in a pattern with `count` places
 unfoldable pub placeVerdict : ℕ → Tests → Verdict
 placeVerdict count tests = verdictOf (ltb count 16 && ltb (tests .count) 5) (tests .inrange) (tests .known)
 
-unfoldable pub placeIn : Kind → Tests → Place
-placeIn kind tests = record { kind = kind; tests = tests .tests; count = tests .count }
+-- the place of a line without a fault
+unfoldable pub placeFrom : Kind → Tests → Place
+placeFrom kind tests = record { kind = kind; tests = tests .tests; count = tests .count }
 
 -- a place's line that was read, judged
 unfoldable pub placeState : ℕ → Pattern → PlaceRead → State
-placeState end p line = ruled end (placeVerdict (p .placecount) (line .tests)) (record { at = line .next; stage = Places; pattern = putPlace p (placeIn (line .kind) (line .tests)) })
+placeState end p line = ruled end (placeVerdict (p .placecount) (line .tests)) (record { at = line .next; stage = Places; pattern = putPlace p (placeFrom (line .kind) (line .tests)) })
 
+-- "0 to 32 edges .. 0 to 4 guards", in a pattern with `count` edges
 unfoldable pub edgeVerdict : (places count : ℕ) → EdgeRead → Verdict
 edgeVerdict places count line = verdictOf
     (ltb count 32 && ltb (line .guards .count) 5)
     (line .guards .inrange)
     (ltb (line .from) places && ltb (line .to) places && line .guards .known && line .resets .known)
 
-unfoldable pub edgeIn : EdgeRead → Edge
-edgeIn line = record { from = min 255 (line .from); to = min 255 (line .to); guards = line .guards .guards; count = line .guards .count; resets = line .resets .flags }
+-- the edge of a line without a fault
+unfoldable pub edgeFrom : EdgeRead → Edge
+edgeFrom line = record { from = min 255 (line .from); to = min 255 (line .to); guards = line .guards .guards; count = line .guards .count; resets = line .resets .flags }
 
 -- an edge's line that was read, judged: there must be a place above it
 unfoldable pub edgeState : ℕ → Pattern → EdgeRead → State
 edgeState end p line = cond (ltb (p .placecount) 1)
     (refusedAt end BrokenForm)
-    (ruled end (edgeVerdict (p .placecount) (p .edgecount) line) (record { at = line .next; stage = Edges; pattern = putEdge p (edgeIn line) }))
+    (ruled end (edgeVerdict (p .placecount) (p .edgecount) line) (record { at = line .next; stage = Edges; pattern = putEdge p (edgeFrom line) }))
 
 -- ---- a turn
 
+-- an edge's line, or a broken form
 unfoldable pub edgeTurn : Bytes → ℕ → Pattern → State
 edgeTurn t at p = cond (edgeAt (p .clocks) t at .found) (edgeState (length t) p (edgeAt (p .clocks) t at)) (refusedAt (length t) BrokenForm)
 
+-- a place's line, or an edge's
 unfoldable pub placeTurn : Bytes → ℕ → Pattern → State
 placeTurn t at p = cond (placeAt (p .channels) t at .found) (placeState (length t) p (placeAt (p .channels) t at)) (edgeTurn t at p)
 
@@ -144,14 +153,17 @@ turned t stage.the-variants.Places at p = placeTurn t at p
 turned t stage.the-variants.Edges at p = edgeTurn t at p
 turned t (stage.the-variants.Refused r) at p = refusedAt (length t) r
 
+-- the line that may stand next
 unfoldable pub turnOf : Bytes → State → State
 turnOf t s = turned t (s .stage) (s .at) (s .pattern)
 
 -- ---- at the text's end
 
+-- zeros beside a refusal
 unfoldable pub refusedOf : Refusal → PatternRead
 refusedOf r = readingOf (refused r)
 
+-- "no place at all" is 2
 unfoldable pub settledOf : Pattern → PatternRead
 settledOf p = cond (ltb (p .placecount) 1) (refusedOf BrokenForm) (readingOf (accepted p))
 
@@ -161,6 +173,7 @@ finished stage.the-variants.Places p = settledOf p
 finished stage.the-variants.Edges p = settledOf p
 finished (stage.the-variants.Refused r) p = refusedOf r
 
+-- "empty text" is 2
 unfoldable pub finishOf : State → PatternRead
 finishOf s = finished (s .stage) (s .pattern)
 

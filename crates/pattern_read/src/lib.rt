@@ -15,10 +15,10 @@ ghost use Rattle.pattern_read.specs.Turn.{
   putPlace,
   putEdge,
   placeVerdict,
-  placeIn,
+  placeFrom,
   placeState,
   edgeVerdict,
-  edgeIn,
+  edgeFrom,
   edgeState,
   edgeTurn,
   placeTurn,
@@ -258,7 +258,7 @@ fn place_verdict(count: u8, tests: Tests) -> Verdict
 }
 
 fn place_of(kind: Kind, tests: Tests) -> Place
-    ensures { λ r. ⌜ r ≡ placeIn kind tests ⌝ }
+    ensures { λ r. ⌜ r ≡ placeFrom kind tests ⌝ }
 {
     let list = tests.tests;
     let count = tests.count;
@@ -309,7 +309,7 @@ fn edge_verdict(places: u8, count: u8, line: EdgeRead) -> Verdict
 }
 
 fn edge_of(line: EdgeRead) -> Edge
-    ensures { λ r. ⌜ r ≡ edgeIn line ⌝ }
+    ensures { λ r. ⌜ r ≡ edgeFrom line ⌝ }
 {
     let guards = line.guards;
     let resets = line.resets;

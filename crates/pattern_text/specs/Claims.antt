@@ -21,13 +21,14 @@ use Rattle.pattern_text.specs.Text.{Answer, accepted, refused, finish, m
 abbrev pub NumeralsExact : Type 0
 NumeralsExact = (b : Bytes) (n : ℕ) (r : Bytes) → (numeralOf b ≡ got n r) ↔ ((b ≡ decimal n ++ r) × (startsDigit r ≡ false))
 
-abbrev pub hasForm : Option Raw → Bool
-hasForm none = false
-hasForm (some l) = true
-
 -- A line says l exactly if it is l's text.
 abbrev pub LinesExact : Type 0
 LinesExact = (b : Bytes) (l : Raw) → (lineOf b ≡ some l) ↔ (b ≡ renderLine l)
+
+-- whether something was read
+abbrev pub hasForm : Option Raw → Bool
+hasForm none = false
+hasForm (some l) = true
 
 -- Bytes have the form of a line exactly if they are the text of what a line can say, and of one such thing only.
 abbrev pub LinesFormed : Type 0

@@ -1,81 +1,44 @@
 -- A run, step by step: what a step leaves, what the steps come to, and that this is the run's price.
-use Prim.Native.Nat.{ℕ, zero, suc, _+_, _-_, _*_, _^_, _≤_, _<_}
-use native.Mathlib.Nat.{add-mul, add-zero}
-use native.Mathlib.Numerals.{add-one}
+use Prim.Native.Nat.{ℕ, zero, suc, _+_, _-_, _*_, _≤_, _<_}
+use native.Mathlib.Nat.{add-zero}
 use native.Mathlib.Omega.{arith}
-use mathlib.Core.Path.{_≡_, refl, sym, ap, subst, _∙_}
-use mathlib.Core.List.{List, [], _∷_, _++_, map, zipWith}
+use mathlib.Core.Path.{_≡_, refl, sym, ap, _∙_}
+use mathlib.Core.List.{List, [], _∷_, map, zipWith}
 use mathlib.Core.Option.{Option, none, some}
 use mathlib.Core.Bool.{Bool, true, false, cond, _&&_}
-use borrow.Author.Tests.{le-leb, lt-leb, leb-true, leb-false, ltb-true, eqb-true, eq-eqb}
-use lib.Dec.{T, leb, ltb, eqb}
-use lib.ListN.{length, take, drop, getD, replicate, length-replicate, length-append, length-drop}
-use lib.Seq.{drop-drop, drop-append-add, length-take-le, getD-take, getD-drop, take-all}
-use lib.IntN.{ℤ, natAbs}
-use Rattle.weighting.specs.Weighting.{combineFrom, combineAll}
+use borrow.Author.Tests.{le-leb, lt-leb, leb-true, leb-false, ltb-true, eqb-true}
+use lib.Dec.{T, leb}
+use lib.ListN.{length, take, drop, getD, length-drop}
+use lib.Seq.{drop-drop, length-take-le, getD-take, getD-drop, take-all}
+use lib.IntN.{ℤ}
+use Rattle.weighting.specs.Weighting.{combineFrom}
 use Rattle.weighting.specs.Weightings.{weightingOf}
 use Rattle.weighting.proofs.Worths.{combineFrom-combine}
 use Rattle.weighting.proofs.Sizes.{unit-size}
-use Rattle.pattern.specs.declared.Edge.{Edge}
 use Rattle.pattern.specs.declared.Pattern.{Pattern}
-use Rattle.pattern.specs.Slots.{all}
 use Rattle.pattern.specs.Sound.{noEdge, edgeSound, soundOf}
 use Rattle.pattern.specs.InUse.{placeAt, edgeAt}
 use Rattle.pattern.specs.Kinds.{isStart, isEnd}
-use Rattle.pattern.specs.Clocks.{Clocks, clockAt, zeroClocks, later, afterResets, guardsHold}
-use Rattle.pattern.specs.Distance.{Sample, placeWorth}
-use Rattle.pattern.proofs.ListLaws.{length-zip, zip-at}
+use Rattle.pattern.specs.Clocks.{Clocks, clockAt, zeroClocks}
+use Rattle.pattern.specs.Distance.{placeWorth}
 use Rattle.pattern.proofs.SoundLaws.{both, edge-parts}
 use Rattle.pattern.proofs.SoundLaws as pattern-laws
 use Rattle.price.specs.declared.Begin.{Begin}
 use Rattle.price.specs.declared.Stand.{Stand}
 use Rattle.price.specs.declared.Walk.{Walk}
-use Rattle.record.specs.Record.{Book, ticksOf, piecesOf, bookOf, total, valueInRange, recordSound}
+use Rattle.record.specs.Record.{Book, ticksOf, piecesOf, bookOf, total}
 use Rattle.record.specs.Joined.{joined, observed}
 use Rattle.record.specs.Run.{Step, canStep, clocksAfter, goes, isRun, lengthOf, stepsOf}
 use Rattle.record.specs.Worth.{stayWorth, stayWorths, runWorth, priceOf}
 use Rattle.price.specs.Price.{stepsFit}
-use Rattle.price.specs.Walk.{Stands, ahead, Walks, Stayed}
-use Rattle.price.specs.Stand.{Found, Room, scoreFrom, outcome, Held, Able, Stepped, Fit}
-use Rattle.record.proofs.ListLaws.{all-at, all-drop, getD-any}
+use Rattle.price.specs.Walk.{ahead, Walks, Stayed}
+use Rattle.price.specs.Stand.{Found, Room, scoreFrom, outcome, startOf, Held, Able, Stepped, Fit}
+use Rattle.record.proofs.ListLaws.{all-at, getD-any}
 use Rattle.record.proofs.RecordLaws.{parts, part-sound, length-ticks, drop-pieces, ticks-from}
+use Rattle.record.proofs.StepLaws.{clocks-after}
 use Rattle.record.proofs.PlaceLaws.{stays-worth-all, place-size, place-at-sound}
 
--- ---- clocks
-
-pub later-at : (n k : ℕ) (cs : Clocks) → clockAt (later n cs) k ≤ clockAt cs k + n
-later-at n k [] = omega arith
-later-at n zero (c ∷ cs) = omega arith
-later-at n (suc k) (c ∷ cs) = later-at n k cs
-
-resets-at : (fs : List Bool) (cs : Clocks) (k : ℕ) → clockAt (zipWith (λ f c. cond f 0 c) fs cs) k ≤ clockAt cs k
-unfolding zipWith
-resets-at [] cs k = omega arith
-resets-at (f ∷ fs) [] k = omega arith
-resets-at (true ∷ fs) (c ∷ cs) zero = omega arith
-resets-at (false ∷ fs) (c ∷ cs) zero = omega arith
-resets-at (f ∷ fs) (c ∷ cs) (suc k) = resets-at fs cs k
-
-pub clocks-after : (p : Pattern) (cs : Clocks) (x : Step) (k : ℕ) → clockAt (clocksAfter p cs x) k ≤ clockAt cs k + x .stay
-unfolding afterResets
-clocks-after p cs x k =
-    omega (arith, resets-at (edgeAt p (x .edge) .resets) (later (x .stay) cs) k, later-at (x .stay) k cs)
-
 -- ---- a step
-
--- what a step that can be made has
-pub record Can (p : Pattern) (k : ℕ) (x : Step) : Type 0 where
-  pub known : x .edge < p .edgecount
-  pub leaves : edgeAt p (x .edge) .from ≡ k
-  pub waits : 1 ≤ x .stay
-
-pub can-parts : (p : Pattern) (k : ℕ) (cs : Clocks) (x : Step) → canStep p k cs x ≡ true → Can p k x
-unfolding canStep
-can-parts p k cs x e =
-    let a = both _ _ e in
-    let b = both _ _ (a .0) in
-    let c = both _ _ (b .0) in
-    record { known = ltb-true _ _ (c .0); leaves = eqb-true _ _ (c .1); waits = leb-true _ _ (b .1) }
 
 -- an edge that a sound pattern has leaves a place that it has
 pub edge-at-sound : (p : Pattern) (k : ℕ) → soundOf p ≡ true → k < p .edgecount → (k < 32) × (edgeAt p k .from < p .placecount)
@@ -285,16 +248,7 @@ zero-at (suc (suc (suc (suc k)))) = refl
 module _ (p : Pattern) (ds : List ℕ) (vs : List ℤ) (begin : ℕ) (es ss : List ℕ) (h : Fit p ds vs begin es ss) (r : Begin) (f : Found ds begin r) where
   -- where the code stands at the begin, in the part of the record from the begin's piece on
   abbrev pub atBegin : Stand
-  atBegin =
-      record {
-        going = isStart (placeAt p (edgeAt p (getD es 0 0) .from) .kind);
-        place = edgeAt p (getD es 0 0) .from;
-        clocks = zeroClocks;
-        piece = 0;
-        used = r .used;
-        left = total ds - begin;
-        worth = weightingOf (p .weighing) .unit;
-      }
+  atBegin = startOf p (getD es 0 0) (r .used) (total ds - begin)
 
   pub book-long : length (bookOf (p .channels) ds vs) ≡ total ds
   unfolding bookOf

@@ -2,29 +2,26 @@
 use Prim.Native.Nat.{ℕ, zero, suc, _+_, _-_, _*_, _^_, _≤_, _<_}
 use native.Mathlib.Numerals.{add-one}
 use native.Mathlib.Omega.{arith}
-use mathlib.Core.Path.{_≡_, refl, sym, ap, subst, _∙_}
+use mathlib.Core.Path.{_≡_, refl, sym, ap, _∙_}
 use mathlib.Core.List.{List, [], _∷_, _++_, map}
-use mathlib.Core.Option.{Option, none, some}
+use mathlib.Core.Option.{Option, some}
 use mathlib.Core.Bool.{Bool, true, false, cond}
 use borrow.Author.Tests.{lt-ltb, le-ltb, ltb-true, ltb-false}
 use lib.Dec.{ltb}
 use lib.ListN.{length, take, drop, getD, replicate}
 use lib.Seq.{drop-drop, take-add}
 use lib.IntN.{ℤ, natAbs}
-use mir.Syntax.{w64}
-use mir.Val.{SFits}
 use Rattle.integers.proofs.Ranges.{abs-fits-64}
 use Rattle.weighting.specs.declared.Weighing.{Weighing}
 use Rattle.weighting.specs.Weighting.{Weighting, combineFrom}
 use Rattle.weighting.specs.Weightings.{weightingOf}
 use Rattle.weighting.proofs.Sizes.{combine-size}
 use Rattle.pattern.specs.declared.Place.{Place}
-use Rattle.pattern.specs.Slots.{all}
 use Rattle.pattern.specs.Distance.{Sample, placeWorth}
 use Rattle.price.specs.declared.Walk.{Walk}
 use Rattle.record.specs.Record.{Book, valueInRange}
 use Rattle.record.specs.Record.{sampleAt}
-use Rattle.price.specs.Walk.{ahead, Stands, newTo, joinsTo, seenAt, Observes, Walks, toCome, Turned, Stayed}
+use Rattle.price.specs.Walk.{ahead, newTo, joinsTo, seenAt, withPiece, Observes, Walks, toCome, Turned, Stayed}
 use Rattle.price.proofs.AheadLaws.{new-nothing, new-stretch}
 use Rattle.price.proofs.AheadLaws.{ahead-on, ahead-next, ahead-take, ahead-length, ahead-none}
 use Rattle.record.proofs.ListLaws.{all-take, all-drop, getD-any}
@@ -68,9 +65,7 @@ module _ (w : Weighing) (l : Place) (n : ℕ) (ds : List ℕ) (vs : List ℤ) (f
 
   -- the worth once the piece is observed
   unfoldable pub next : ℤ
-  next =
-      cond (joinsTo (seenAt n vs first (s .piece)) (sampleAt n vs (s .piece))) (s .worth)
-      (weightingOf w .combine (s .worth) (placeWorth w l (sampleAt n vs (s .piece))))
+  next = withPiece w l n vs first (s .piece) (s .worth)
 
   mild-here : natAbs (placeWorth w l (sampleAt n vs (s .piece))) ≤ 8000000
   unfolding sampleAt

@@ -11,15 +11,15 @@ use Rattle.weighting.specs.Weighting.{combineFrom}
 use Rattle.weighting.specs.Weightings.{weightingOf}
 use Rattle.pattern.specs.declared.Pattern.{Pattern}
 use Rattle.pattern.specs.InUse.{placeAt, edgeAt}
-use Rattle.pattern.specs.Kinds.{isEnd}
-use Rattle.pattern.specs.Clocks.{Clocks, clockAt}
+use Rattle.pattern.specs.Kinds.{isStart, isEnd}
+use Rattle.pattern.specs.Clocks.{Clocks, clockAt, zeroClocks}
 use Rattle.pattern.specs.Distance.{placeWorth}
 use Rattle.pattern.specs.Sound.{soundOf}
 use Rattle.price.specs.declared.Begin.{Begin}
 use Rattle.price.specs.declared.Stand.{Stand}
-use Rattle.record.specs.Record.{Book, total, recordSound, bookOf}
+use Rattle.record.specs.Record.{Book, total, recordSound}
 use Rattle.record.specs.Joined.{joined}
-use Rattle.record.specs.Run.{Step, canStep, clocksAfter, stepsOf}
+use Rattle.record.specs.Run.{Step, canStep, clocksAfter}
 use Rattle.price.specs.Price.{stepsFit}
 use Rattle.price.specs.Walk.{Stands, ahead}
 
@@ -51,6 +51,23 @@ outcome p ds vs s xs =
     cond (s .going)
     (scoreFrom p (ahead (p .channels) ds vs (s .piece) (s .used)) (s .worth) (s .place) (s .clocks) xs)
     none
+
+-- At the begin: "It enters a start place at b, all clocks 0."
+abbrev pub startOf : Pattern → (edge used left : ℕ) → Stand
+startOf p edge used left =
+    record {
+      going = isStart (placeAt p (edgeAt p edge .from) .kind);
+      place = edgeAt p edge .from;
+      clocks = zeroClocks;
+      piece = 0;
+      used = used;
+      left = left;
+      worth = weightingOf (p .weighing) .unit;
+    }
+
+-- At the end: "The last edge enters an end place at e exactly."
+abbrev pub scoreAt : Pattern → Stand → Option ℤ
+scoreAt p s = cond (s .going) (cond (isEnd (placeAt p (s .place) .kind)) (some (s .worth)) none) none
 
 -- What holds between the steps. No clock is past the ticks so far, and each tick so far brought at most one observation.
 pub record Held (p : Pattern) (durations : List ℕ) (values : List ℤ) (s : Stand) : Type 0 where

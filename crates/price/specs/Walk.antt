@@ -1,7 +1,7 @@
 -- How the code goes through a record, piece by piece. No promise of a public operation speaks of this.
 use Prim.Native.Nat.{ℕ, _+_, _*_, _-_, _^_, _≤_, _<_}
 use mathlib.Core.Path.{_≡_}
-use mathlib.Core.List.{List, [], _∷_, map}
+use mathlib.Core.List.{List, map}
 use mathlib.Core.Option.{Option, none, some}
 use mathlib.Core.Bool.{Bool, true, false, cond}
 use lib.Dec.{ltb}
@@ -45,6 +45,11 @@ joinsTo (some p) x = sameSample p x
 -- What a stay that began in the piece `first` observed last when it comes to a piece.
 unfoldable pub seenAt : (channels : ℕ) → (values : List ℤ) → (first piece : ℕ) → Option Sample
 seenAt n vs first i = cond (ltb first i) (some (sampleAt n vs (i - 1))) none
+
+-- The worth once a piece is observed too, unless it is one with what was observed last.
+abbrev pub withPiece : Weighing → Place → (channels : ℕ) → (values : List ℤ) → (first piece : ℕ) → (worth : ℤ) → ℤ
+withPiece w l n vs first i a =
+    cond (joinsTo (seenAt n vs first i) (sampleAt n vs i)) a (weightingOf w .combine a (placeWorth w l (sampleAt n vs i)))
 
 -- ---- what functions ask and promise
 

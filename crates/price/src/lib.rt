@@ -31,8 +31,8 @@ pub struct Walk {
     pub worth: i64,
 }
 
-// Where a run stands between two steps, if it goes on: just entered a place; in a piece, of which some ticks are used; the
-// ticks left of the record; the worth so far.
+// Where a run stands between two steps, if it goes on: in a place just entered, with the clocks as they are then; in a
+// piece, of which some ticks are used; the ticks left of the record; the worth so far.
 pub struct Stand {
     pub going: bool,
     pub place: u8,
@@ -63,7 +63,8 @@ pub fn price(
     edges: &[u32],
     stays: &[u32],
 ) -> Priced
-    ensures { λ r. ⌜ r ≡ pricedOf p (now (durations .entry)) (now (values .entry)) begin (now (edges .entry)) (now (stays .entry)) ⌝ }
+    ensures { λ r. ⌜ r ≡ pricedOf p (now (durations .entry)) (now (values .entry)) begin
+        (now (edges .entry)) (now (stays .entry)) ⌝ }
 {
     if !sound(p) {
         return Priced::Refused(Refusal::UnsoundPattern);

@@ -14,21 +14,18 @@ use pattern::is_start;
 use record::rules::ticks;
 use weighting::unit;
 ghost use mathlib.Core.Path.{_≡_};
-ghost use mathlib.Core.Bool.{true, cond};
+ghost use mathlib.Core.Bool.{true};
 ghost use mathlib.Core.List.{[]};
-ghost use mathlib.Core.Option.{none, some};
 ghost use Prim.Native.Nat.{_<_};
 ghost use lib.ListN.{length};
-ghost use Rattle.weighting.specs.Weightings.{weightingOf};
 ghost use Rattle.pattern.specs.InUse.{placeAt, edgeAt};
-ghost use Rattle.pattern.specs.Kinds.{isStart, isEnd};
-ghost use Rattle.pattern.specs.Clocks.{zeroClocks, later};
+ghost use Rattle.pattern.specs.Clocks.{later};
 ghost use Rattle.pattern.specs.Sound.{soundOf};
 ghost use Rattle.record.specs.Record.{total, bookOf};
 ghost use Rattle.record.specs.Run.{canStep, stepsOf};
 ghost use Rattle.record.specs.Worth.{priceOf};
 ghost use Rattle.price.specs.Price.{scored};
-ghost use Rattle.price.specs.Stand.{Found, Room, outcome, Held, Able, Stepped, Fit};
+ghost use Rattle.price.specs.Stand.{Found, Room, outcome, startOf, scoreAt, Held, Able, Stepped, Fit};
 
 // The begin's piece, and the ticks of it that lie before the begin.
 pub fn find(durations: &[u32], begin: u32) -> Begin
@@ -103,7 +100,7 @@ pub fn can_step(p: Pattern, place: u8, clocks: [u32; 4], edge: u32, stay: u32) -
 
 // "It enters a start place at b, all clocks 0."
 pub fn start(p: Pattern, edge: u32, used: u32, left: u32) -> Stand
-    ensures { λ r. ⌜ r ≡ record { going = isStart (placeAt p (edgeAt p edge .from) .kind); place = edgeAt p edge .from; clocks = zeroClocks; piece = 0; used = used; left = left; worth = weightingOf (p .weighing) .unit } ⌝ }
+    ensures { λ r. ⌜ r ≡ startOf p edge used left ⌝ }
 {
     let place = left_by(p, edge);
     let w = p.weighing;
@@ -129,7 +126,8 @@ pub fn take_step(
 ) -> Stand
     requires { ⌜ Held p (now durations) (now values) s ⌝ }
     requires { ⌜ Able p s (record { edge = edge; stay = stay }) ⌝ }
-    ensures { λ r. ⌜ Stepped p (now (durations .entry)) (now (values .entry)) s (record { edge = edge; stay = stay }) r ⌝ }
+    ensures { λ r. ⌜ Stepped p (now (durations .entry)) (now (values .entry)) s
+        (record { edge = edge; stay = stay }) r ⌝ }
 {
     let k = edge as usize;
     let e = p.edges[k];
@@ -159,7 +157,8 @@ pub fn take_step(
 // One step, if it can be made and the record has its ticks.
 pub fn step(p: Pattern, durations: &[u32], values: &[i32], s: Stand, edge: u32, stay: u32) -> Stand
     requires { ⌜ Held p (now durations) (now values) s ⌝ }
-    ensures { λ r. ⌜ Stepped p (now (durations .entry)) (now (values .entry)) s (record { edge = edge; stay = stay }) r ⌝ }
+    ensures { λ r. ⌜ Stepped p (now (durations .entry)) (now (values .entry)) s
+        (record { edge = edge; stay = stay }) r ⌝ }
 {
     let c = s.clocks;
     if s.going {
@@ -191,7 +190,9 @@ pub fn run(
 ) -> Stand
     requires { ⌜ Held p (now durations) (now values) s ⌝ }
     requires { ⌜ length (now edges) ≡ length (now stays) ⌝ }
-    ensures { λ r. ⌜ outcome p (now (durations .entry)) (now (values .entry)) r [] ≡ outcome p (now (durations .entry)) (now (values .entry)) s (stepsOf (now (edges .entry)) (now (stays .entry))) ⌝ }
+    ensures { λ r. ⌜ outcome p (now (durations .entry)) (now (values .entry)) r []
+        ≡ outcome p (now (durations .entry)) (now (values .entry)) s
+        (stepsOf (now (edges .entry)) (now (stays .entry))) ⌝ }
 {
     let mut at = s;
     let mut i: usize = 0;
@@ -204,7 +205,7 @@ pub fn run(
 
 // "The last edge enters an end place"
 pub fn answer(p: Pattern, s: Stand) -> Priced
-    ensures { λ r. ⌜ r ≡ scored (cond (s .going) (cond (isEnd (placeAt p (s .place) .kind)) (some (s .worth)) none) none) ⌝ }
+    ensures { λ r. ⌜ r ≡ scored (scoreAt p s) ⌝ }
 {
     if s.going {
         if is_end(kind_at(p, s.place)) {
@@ -224,7 +225,8 @@ pub fn score(
     stays: &[u32],
 ) -> Priced
     requires { ⌜ Fit p (now durations) (now values) begin (now edges) (now stays) ⌝ }
-    ensures { λ r. ⌜ r ≡ scored (priceOf p (bookOf (p .channels) (now (durations .entry)) (now (values .entry))) begin (stepsOf (now (edges .entry)) (now (stays .entry)))) ⌝ }
+    ensures { λ r. ⌜ r ≡ scored (priceOf p (bookOf (p .channels) (now (durations .entry)) (now (values .entry))) begin
+        (stepsOf (now (edges .entry)) (now (stays .entry)))) ⌝ }
 {
     let found = find(durations, begin);
     let piece = found.piece;

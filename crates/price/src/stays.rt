@@ -6,18 +6,16 @@ use record::samples::same_sample;
 use weighting::Weighing;
 use weighting::combine;
 ghost use mathlib.Core.Path.{_≡_};
-ghost use mathlib.Core.Bool.{cond};
 ghost use Prim.Native.Nat.{_+_, _*_, _≤_, _<_};
 ghost use lib.ListN.{length};
-ghost use Rattle.weighting.specs.Weightings.{weightingOf};
-ghost use Rattle.pattern.specs.Distance.{placeWorth};
 ghost use Rattle.record.specs.Record.{sampleAt};
-ghost use Rattle.price.specs.Walk.{seenAt, joinsTo, Observes, Walks, Turned, Stayed};
+ghost use Rattle.price.specs.Walk.{seenAt, joinsTo, withPiece, Observes, Walks, Turned, Stayed};
 
 // Whether the piece is one with the piece before it, in a stay that began in the first.
 pub fn joins(channels: usize, values: &[i32], first: usize, piece: usize) -> bool
     requires { ⌜ piece * channels + channels ≤ length (now values) ⌝ }
-    ensures { λ r. ⌜ r ≡ joinsTo (seenAt channels (now (values .entry)) first piece) (sampleAt channels (now (values .entry)) piece) ⌝ }
+    ensures { λ r. ⌜ r ≡ joinsTo (seenAt channels (now (values .entry)) first piece)
+        (sampleAt channels (now (values .entry)) piece) ⌝ }
 {
     if first < piece {
         let before = (piece - 1) * channels;
@@ -40,7 +38,7 @@ pub fn observe(
     worth: i64,
 ) -> i64
     requires { ⌜ Observes w l channels (now values) piece worth ⌝ }
-    ensures { λ r. ⌜ r ≡ cond (joinsTo (seenAt channels (now (values .entry)) first piece) (sampleAt channels (now (values .entry)) piece)) worth (weightingOf w .combine worth (placeWorth w l (sampleAt channels (now (values .entry)) piece))) ⌝ }
+    ensures { λ r. ⌜ r ≡ withPiece w l channels (now (values .entry)) first piece worth ⌝ }
 {
     if joins(channels, values, first, piece) {
         worth

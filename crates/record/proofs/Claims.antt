@@ -1,34 +1,36 @@
 -- The claims of specs/Claims.
-use Prim.Native.Nat.{ℕ, zero, suc, _+_, _≤_, _<_}
-use native.Mathlib.Omega.{arith}
+use Prim.Native.Nat.{ℕ, _+_}
 use mathlib.Core.Path.{_≡_, refl, sym, ap, subst, _∙_}
-use mathlib.Core.List.{List, [], _∷_, _++_, map, append-assoc}
+use mathlib.Core.List.{List, [], _∷_, _++_, map, append-assoc, List·Memᴰ, List·Memᴰ·cases-cons, List·Memᴰ·not-nil}
+use mathlib.Core.Logic.{⊎-elim}
+use native.Mathlib.Omega.{arith}
 use mathlib.Core.Bool.{Bool, true, false, cond, not, _&&_}
-use borrow.Author.Tests.{eqb-true, eqb-false, not-true, ltb-true, ltb-false}
-use lib.Dec.{eqb, ltb}
-use lib.ListN.{length, set, getD, replicate, replicate-append-replicate}
+use borrow.Author.Tests.{eqb-true, eqb-false, not-true, leb-true, ltb-true, ltb-false}
+use lib.Dec.{eqb, leb, ltb}
+use lib.ListN.{length, getD, replicate, replicate-append-replicate}
 use lib.Seq.{set-out, getD-set-same, getD-set-other}
 use lib.IntN.{ℤ}
 use Rattle.integers.specs.Least.{minZ}
+use Rattle.integers.proofs.Tests.{is-false}
 use Rattle.integers.proofs.Least.{min-assoc, min-self}
 use Rattle.weighting.specs.declared.Weighing.the-variants.{Margin}
 use Rattle.weighting.specs.Weighting.{combineFrom}
 use Rattle.weighting.specs.Weightings.{margin}
-use Rattle.pattern.specs.declared.Kind.{Kind}
 use Rattle.pattern.specs.declared.Place.{Place}
 use Rattle.pattern.specs.declared.Pattern.{Pattern}
 use Rattle.pattern.specs.Sound.{noPlace}
 use Rattle.pattern.specs.Slots.{all}
-use Rattle.pattern.specs.Kinds.{isStart, isEnd}
-use Rattle.pattern.specs.Clocks.{Clocks, zeroClocks}
-use Rattle.pattern.specs.InUse.{placeAt, edgeAt}
+use Rattle.pattern.specs.Kinds.{isEnd}
+use Rattle.pattern.specs.Clocks.{Clocks, clockAt, zeroClocks, later, guardHolds, guardsHold}
+use Rattle.pattern.specs.InUse.{guardsOf, placeAt, edgeAt}
 use Rattle.pattern.specs.Distance.{Sample, placeWorth}
 use Rattle.pattern.proofs.SoundLaws.{both}
 use Rattle.record.specs.Record.{Piece, Book, ticksOf}
 use Rattle.record.specs.Joined.{sameSample, absorb, joined}
-use Rattle.record.specs.Run.{Step, canStep, clocksAfter, goes, isRun, lengthOf}
+use Rattle.record.specs.Run.{Step, canStep, clocksAfter, goes, isRun}
 use Rattle.record.specs.Worth.{stayWorth, stayWorths, runWorth, priceOf}
-use Rattle.record.specs.Claims.{CutsDoNotMatter, ObservedInOrder, MarginCountsTicks, EndPlaceIsSilent, withPlace}
+use Rattle.record.specs.Claims.{CutsDoNotMatter, ObservedInOrder, MarginCountsTicks, EndPlaceIsSilent, ZeroGuardNeverHolds, withPlace}
+use Rattle.record.proofs.StepLaws.{later-is, can-parts}
 use Rattle.record.proofs.JoinedLaws.{same-true, joined-fresh}
 
 -- ---- cuts
@@ -114,3 +116,21 @@ module _ (p : Pattern) (k : ℕ) (l : Place) where
 pub end-place-is-silent : EndPlaceIsSilent
 unfolding priceOf runWorth
 end-place-is-silent p b begin xs k l h e = rw (run-same p k l h xs, worths-same p k l b begin xs e)
+
+-- ---- a guard that no clock passes after a stay
+
+all-member : {A : Type 0} (f : A → Bool) (xs : List A) (a : A) → List·Memᴰ a xs → all f xs ≡ true → f a ≡ true
+all-member f [] a m e = absurd (List·Memᴰ·not-nil m)
+all-member f (x ∷ xs) a m e =
+    let h = both (f x) (all f xs) e in
+    ⊎-elim (λ q. ap f q ∙ h .0) (λ q. all-member f xs a q (h .1)) (List·Memᴰ·cases-cons m)
+
+pub zero-guard-never-holds : ZeroGuardNeverHolds
+unfolding guardsHold
+zero-guard-never-holds p k cs x g m sign bound clock =
+    is-false (canStep p k cs x) (λ e.
+    let can = can-parts p k cs x e in
+    let waits = can .waits in
+    let holds = all-member (guardHolds (later (x .stay) cs)) (guardsOf (edgeAt p (x .edge))) g m (can .holds) in
+    let low : leb (clockAt (later (x .stay) cs) (g .clock)) 0 ≡ true = rw (sign, bound) at holds in
+    omega (arith, later-is (x .stay) (g .clock) cs clock, leb-true (clockAt (later (x .stay) cs) (g .clock)) 0 low))

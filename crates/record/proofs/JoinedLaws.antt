@@ -1,8 +1,8 @@
 -- Joining: samples that test equal are the same; what is observed from left to right; a sample many times over.
 use Prim.Native.Nat.{ℕ, zero, suc, _+_}
 use native.Mathlib.Omega.{arith}
-use mathlib.Core.Path.{_≡_, refl, sym, ap, subst, _∙_}
-use mathlib.Core.List.{List, [], _∷_, _++_}
+use mathlib.Core.Path.{_≡_, refl, sym, ap, _∙_}
+use mathlib.Core.List.{[], _∷_, _++_}
 use mathlib.Core.Bool.{Bool, true, false, cond, _&&_, and-assoc}
 use lib.ListN.{length, replicate}
 use lib.IntN.{ℤ}

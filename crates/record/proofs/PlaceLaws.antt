@@ -1,15 +1,15 @@
 -- A place's worth of a sample: always a worth; in a sound pattern, of values in range, at most 8,000,000 in size, and in
 -- margin at most 2,000,001.
-use Prim.Native.Nat.{ℕ, zero, suc, _+_, _*_, _≤_, _<_, max}
+use Prim.Native.Nat.{ℕ, zero, suc, _≤_, _<_}
 use native.Mathlib.Nat.{mul-le-mul-right}
 use native.Mathlib.Omega.{arith}
-use mathlib.Core.Path.{_≡_, refl, sym, ap, subst, _∙_}
-use mathlib.Core.List.{List, [], _∷_, map, List·Memᴰ, List·Memᴰ·cases-cons, List·Memᴰ·not-nil}
-use mathlib.Core.Bool.{Bool, true, false, _&&_}
+use mathlib.Core.Path.{_≡_, sym, ap, subst, _∙_}
+use mathlib.Core.List.{List, [], _∷_, map, List·Memᴰ·cases-cons, List·Memᴰ·not-nil}
+use mathlib.Core.Bool.{true, _&&_}
 use mathlib.Core.Logic.{⊎-elim}
 use borrow.Author.Tests.{leb-true}
 use lib.Dec.{T}
-use lib.ListN.{length, take, getD, length-map, length-take}
+use lib.ListN.{length, take, length-map, length-take}
 use lib.Seq.{getD-take, length-take-le}
 use lib.IntN.{ℤ, pos, natAbs}
 use Rattle.integers.specs.Least.{minZ}
@@ -27,7 +27,7 @@ use Rattle.pattern.specs.declared.Test.{Test}
 use Rattle.pattern.specs.declared.Place.{Place}
 use Rattle.pattern.specs.declared.Pattern.{Pattern}
 use Rattle.pattern.specs.Slots.{all}
-use Rattle.pattern.specs.Sound.{noPlace, testInRange, testKnown, testUnused, placeSound, soundOf}
+use Rattle.pattern.specs.Sound.{noPlace, testInRange, testKnown, placeSound, soundOf}
 use Rattle.pattern.specs.InUse.{testsOf, placeAt}
 use Rattle.pattern.specs.Distance.{Sample, readingOf, distanceFrom, distanceIn, distancesOf, placeWorth}
 use Rattle.pattern.proofs.SoundLaws.{both, slotted, parts}

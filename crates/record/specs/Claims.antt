@@ -1,22 +1,24 @@
 -- What is proved of prices. The proofs are in proofs/.
-use Prim.Native.Nat.{ℕ, _+_, _≤_}
+use Prim.Native.Nat.{ℕ, _+_, _<_}
 use mathlib.Core.Path.{_≡_}
-use mathlib.Core.List.{List, [], _∷_, _++_, map}
-use mathlib.Core.Bool.{Bool, true, false, not}
+use mathlib.Core.List.{List, _∷_, _++_, map, List·Memᴰ}
+use mathlib.Core.Bool.{true, false, not}
 use lib.Dec.{eqb}
-use lib.ListN.{set}
-use lib.IntN.{natAbs}
+use lib.ListN.{length, set}
 use Rattle.weighting.specs.declared.Weighing.the-variants.{Margin}
 use Rattle.weighting.specs.Weighting.{combineAll}
 use Rattle.weighting.specs.Weightings.{margin}
+use Rattle.pattern.specs.declared.Sign.the-variants.{AtMost}
+use Rattle.pattern.specs.declared.Guard.{Guard}
 use Rattle.pattern.specs.declared.Place.{Place}
 use Rattle.pattern.specs.declared.Pattern.{Pattern}
 use Rattle.pattern.specs.Slots.{all}
-use Rattle.pattern.specs.InUse.{placeAt, edgeAt}
+use Rattle.pattern.specs.InUse.{guardsOf, placeAt, edgeAt}
+use Rattle.pattern.specs.Clocks.{Clocks}
 use Rattle.pattern.specs.Distance.{Sample, placeWorth}
 use Rattle.record.specs.Record.{Piece, Book, ticksOf}
 use Rattle.record.specs.Joined.{joined, freshAfter}
-use Rattle.record.specs.Run.{Step, lengthOf}
+use Rattle.record.specs.Run.{Step, canStep}
 use Rattle.record.specs.Worth.{priceOf}
 
 -- A piece cut in two, or two neighbours with equal values made one, changes no price.
@@ -55,3 +57,10 @@ EndPlaceIsSilent =
     (p : Pattern) (b : Book) (begin : ℕ) (xs : List Step) (k : ℕ) (l : Place) → l .kind ≡ placeAt p k .kind
     → all (λ x. not (eqb (edgeAt p (x .edge) .from) k)) xs ≡ true
     → priceOf (withPlace p k l) b begin xs ≡ priceOf p b begin xs
+
+-- "After a stay every clock is at least 1, so an edge with the guard `(<= 0 0)` is never taken": of any clock that there is,
+-- also of one that the edge sets to 0.
+abbrev pub ZeroGuardNeverHolds : Type 0
+ZeroGuardNeverHolds =
+    (p : Pattern) (k : ℕ) (cs : Clocks) (x : Step) (g : Guard) → List·Memᴰ g (guardsOf (edgeAt p (x .edge)))
+    → g .sign ≡ AtMost → g .bound ≡ 0 → g .clock < length cs → canStep p k cs x ≡ false

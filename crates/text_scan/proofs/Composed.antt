@@ -1,18 +1,16 @@
 -- A number with a word after it, and an integer, from their parts.
-use Prim.Native.Nat.{ℕ, zero, suc, _-_, _≤_, _<_, _^_, min}
+use Prim.Native.Nat.{ℕ, zero, suc, _-_, _≤_, _<_, min}
 use native.Mathlib.Omega.{arith}
 use mathlib.Core.Path.{_≡_, refl, sym, ap, ap₂, _∙_}
 use mathlib.Core.List.{[], _∷_}
 use borrow.Author.Tests.{lt-ltb}
 use lib.ListN.{length, drop}
 use lib.IntN.{ℤ, pos, negsuc, _-ℤ_}
-use lib.Signed.{mag}
 use mir.Syntax.{w32}
 use mir.Val.{SFits, toZ, ofZ}
 use mir.Facts.{toZ-pos, toZ-ofZ}
-use Rattle.pattern_text.specs.Bytes.{Bytes, Reading, got, broken}
-use Rattle.pattern_text.specs.Numeral.{numeralOf}
-use Rattle.pattern_text.specs.Form.{strip, andThen, giving, minus, integer}
+use Rattle.pattern_text.specs.Bytes.{Bytes}
+use Rattle.pattern_text.specs.Form.{minus, integer}
 use Rattle.text_scan.specs.declared.Found as found
 use Rattle.text_scan.specs.declared.Number as number
 use Rattle.text_scan.specs.declared.Integer as whole
@@ -24,7 +22,7 @@ pub number-within : (t : Bytes) (at v n : ℕ) → number.the-variants.Value v n
 number-within t at v n e = number-found t at v n e .within
 
 pub number-small : (t : Bytes) (at v n : ℕ) → number.the-variants.Value v n ≡ numberAt t at → v ≤ cap
-number-small t at v n e = omega (arith, number-found t at v n e .value)
+number-small t at v n e = omega (arith, number-found t at v n e .made)
 
 pub word-within : (w t : Bytes) (at n : ℕ) → found.the-variants.At n ≡ wordAt w t at → n ≤ length t
 word-within w t at n e = word-found w t at n e .within
@@ -45,7 +43,7 @@ module _ (w t : Bytes) (at : ℕ) where
   then-is v n m e f =
       let k = number-found t at v n e in
       let l = word-found w t n m f in
-      rw (k .is, l .is, end-drop t m (l .within)) (ap (λ (x : ℕ). number.the-variants.Value x m) (k .value))
+      rw (k .is, l .is, end-drop t m (l .within)) (ap (λ (x : ℕ). number.the-variants.Value x m) (k .made))
 
 -- ---- after a minus
 
@@ -73,7 +71,7 @@ module _ (t : Bytes) (at : ℕ) where
 
   pub minus-zero : (v n : ℕ) → v < 1 → number.the-variants.Value v n ≡ numberAt t at → whole.the-variants.Broken ≡ minusAt t at
   unfolding minusAt
-  minus-zero v n z e = let k = number-found t at v n e in rw (k .is, nought (k .number) (omega (arith, k .value))) refl
+  minus-zero v n z e = let k = number-found t at v n e in rw (k .is, nought (k .raw) (omega (arith, k .made))) refl
     where
       nought : (m : ℕ) → min cap m ≡ 0 → m ≡ 0
       nought m h = omega arith
@@ -83,7 +81,7 @@ module _ (t : Bytes) (at : ℕ) where
   unfolding minusAt
   minus-is v n z e =
       let k = number-found t at v n e in
-      rw (k .is, negated-is v (number-small t at v n e) z) (go (k .number) (k .value) (k .within))
+      rw (k .is, negated-is v (number-small t at v n e) z) (go (k .raw) (k .made) (k .within))
     where
       go : (m : ℕ) → v ≡ min cap m → n ≤ length t → whole.the-variants.Value (negsuc (v - 1)) n ≡ integerIn t (minus m (drop n t))
       go zero h l = absurd (omega arith)
@@ -95,7 +93,7 @@ module _ (t : Bytes) (at : ℕ) where
   unfolding integer integerAt minusAt
   integer-plain v n e =
       let k = number-found t at v n e in
-      rw (k .is, end-drop t n (k .within), small-is v (number-small t at v n e)) (ap (λ (x : ℕ). whole.the-variants.Value (pos x) n) (k .value))
+      rw (k .is, end-drop t n (k .within), small-is v (number-small t at v n e)) (ap (λ (x : ℕ). whole.the-variants.Value (pos x) n) (k .made))
 
   pub integer-none : number.the-variants.Broken ≡ numberAt t at → found.the-variants.Nothing ≡ wordAt (45 ∷ []) t at → whole.the-variants.Broken ≡ integerAt t at
   unfolding integer integerAt minusAt

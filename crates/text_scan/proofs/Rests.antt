@@ -1,19 +1,19 @@
 -- From what a function of this crate answers to what the definitions read there.
-use Prim.Native.Nat.{ℕ, zero, suc, _+_, _-_, _≤_, _<_, min}
+use Prim.Native.Nat.{ℕ, _+_, _-_, _≤_, min}
 use native.Mathlib.Omega.{arith}
 use mathlib.Core.Path.{_≡_, refl, sym, ap, _∙_}
-use mathlib.Core.List.{List, [], _∷_, _++_, append-assoc}
+use mathlib.Core.List.{_++_, append-assoc}
 use lib.ListN.{length, drop}
-use lib.IntN.{ℤ, pos, negsuc}
+use lib.IntN.{ℤ}
 use Rattle.pattern_text.specs.Bytes.{Bytes, Reading, got, broken}
 use Rattle.pattern_text.specs.Numeral.{decimal, numeralOf}
-use Rattle.pattern_text.specs.Form.{Form, strip, andThen, giving, integer}
-use Rattle.pattern_text.proofs.FormLaws.{Exact, number-exact, integer-exact, strip-sound, inv, giving-inv}
+use Rattle.pattern_text.specs.Form.{Form, strip, giving, integer}
+use Rattle.pattern_text.proofs.FormLaws.{Exact, integer-exact, strip-sound, inv, giving-inv}
 use Rattle.pattern_text.proofs.NumeralLaws.{numeral}
 use Rattle.text_scan.specs.declared.Found as found
 use Rattle.text_scan.specs.declared.Number as number
 use Rattle.text_scan.specs.declared.Integer as whole
-use Rattle.text_scan.specs.Scan.{endOf, foundIn, wordAt, cap, numberIn, numberAt, numberThen, numberThenAt, held, integerIn, integerAt}
+use Rattle.text_scan.specs.Scan.{endOf, placed, wordAt, cap, numberIn, numberAt, numberThen, numberThenAt, held, integerAt}
 use Rattle.text_scan.proofs.Position.{rest-at}
 
 -- what is left when something was read is the rest at a position
@@ -34,50 +34,57 @@ rests-then w t at n r e =
     inv (numeralOf (drop at t)) (λ n r. giving (λ _. n) (strip w r)) n r e (λ m s p q. giving-inv (λ _. m) (strip w s) n r q (λ u k _.
     rest-at t at (decimal m ++ w) r (numeral (drop at t) m s .0 p .0 ∙ ap (_++_ (decimal m)) (strip-sound w s r u k) ∙ sym (append-assoc (decimal m) w r))))
 
--- ---- a word
+-- ---- what an answer tells
 
-pub record Passed (t : Bytes) (x : Reading Unit) (n : ℕ) : Type 0 where
-  pub is : x ≡ got tt (drop n t)
+-- something was read up to n, and y stands for it
+pub record Met {A B : Type 0} (stand : A → B) (t : Bytes) (x : Reading A) (y : B) (n : ℕ) : Type 0 where
+  pub raw : A
+  pub is : x ≡ got raw (drop n t)
+  pub made : y ≡ stand raw
   pub within : n ≤ length t
 
-passed : (t : Bytes) (x : Reading Unit) (n : ℕ) → Rests t x → found.the-variants.At n ≡ foundIn t x → Passed t x n
-passed t (got u r) n h e =
-    let k : n ≡ endOf t r = cc in
-    record { is = rw (k, h u r refl) refl; within = omega arith }
-passed t broken n h e = let z : _≡_ {A = ℕ} 0 1 = cc in absurd (omega arith)
+-- an answer whose cases can be told apart
+pub record Apart {B R : Type 0} (value : B → ℕ → R) (none : R) : Type 0 where
+  pub inj : (a b : B) (n m : ℕ) → value a n ≡ value b m → (a ≡ b) × (n ≡ m)
+  pub apart : (a : B) (n : ℕ) → value a n ≡ none → ⊥
 
-missing-in : (t : Bytes) (x : Reading Unit) → found.the-variants.Nothing ≡ foundIn t x → x ≡ broken
-missing-in t (got u r) e = let z : _≡_ {A = ℕ} 0 1 = cc in absurd (omega arith)
-missing-in t broken e = refl
+module _ {A B R : Type 0} {value : B → ℕ → R} {none : R} (k : Apart value none) (stand : A → B) (t : Bytes) where
+  pub met : (x : Reading A) → Rests t x → (y : B) (n : ℕ) → value y n ≡ placed (λ a. value (stand a)) none t x → Met stand t x y n
+  met (got a r) h y n e =
+      let i = k .inj y (stand a) n (endOf t r) e in
+      let l : n ≡ endOf t r = i .1 in
+      record { raw = a; is = rw (l, h a r refl) refl; made = i .0; within = omega arith }
+  met broken h y n e = absurd (k .apart y n e)
 
-pub word-found : (w t : Bytes) (at n : ℕ) → found.the-variants.At n ≡ wordAt w t at → Passed t (strip w (drop at t)) n
+  pub unmet : (x : Reading A) → none ≡ placed (λ a. value (stand a)) none t x → x ≡ broken
+  unmet (got a r) e = absurd (k .apart (stand a) (endOf t r) (sym e))
+  unmet broken e = refl
+
+-- ---- a word
+
+found-apart : Apart (λ (_ : Unit {0}) n. found.the-variants.At n) found.the-variants.Nothing
+found-apart = record { inj = λ a b n m e. (refl, (cc)); apart = λ a n e. let z : _≡_ {A = ℕ} 0 1 = cc in omega arith }
+
+pub word-found : (w t : Bytes) (at n : ℕ) → found.the-variants.At n ≡ wordAt w t at → Met (λ u. u) t (strip w (drop at t)) tt n
 unfolding wordAt
-word-found w t at n e = passed t (strip w (drop at t)) n (rests-word w t at) e
+word-found w t at n e = met found-apart (λ u. u) t (strip w (drop at t)) (rests-word w t at) tt n e
 
 pub word-missing : (w t : Bytes) (at : ℕ) → found.the-variants.Nothing ≡ wordAt w t at → strip w (drop at t) ≡ broken
 unfolding wordAt
-word-missing w t at e = missing-in t (strip w (drop at t)) e
+word-missing w t at e = unmet found-apart (λ u. u) t (strip w (drop at t)) e
 
 -- ---- a number
 
-pub record Numbered (t : Bytes) (x : Reading ℕ) (v n : ℕ) : Type 0 where
-  pub number : ℕ
-  pub is : x ≡ got number (drop n t)
-  pub value : v ≡ min cap number
-  pub within : n ≤ length t
+number-apart : Apart number.the-variants.Value number.the-variants.Broken
+number-apart = record { inj = λ a b n m e. ((cc), (cc)); apart = λ a n e. let z : _≡_ {A = ℕ} 0 1 = cc in omega arith }
 
-pub numbered : (t : Bytes) (x : Reading ℕ) (v n : ℕ) → Rests t x → number.the-variants.Value v n ≡ numberIn t x → Numbered t x v n
-numbered t (got m r) v n h e =
-    let k : n ≡ endOf t r = cc in
-    let l : v ≡ min cap m = cc in
-    record { number = m; is = rw (k, h m r refl) refl; value = l; within = omega arith }
-numbered t broken v n h e = let z : _≡_ {A = ℕ} 0 1 = cc in absurd (omega arith)
+pub numbered : (t : Bytes) (x : Reading ℕ) (v n : ℕ) → Rests t x → number.the-variants.Value v n ≡ numberIn t x → Met (min cap) t x v n
+numbered t x v n h e = met number-apart (min cap) t x h v n e
 
 pub no-number : (t : Bytes) (x : Reading ℕ) → number.the-variants.Broken ≡ numberIn t x → x ≡ broken
-no-number t (got m r) e = let z : _≡_ {A = ℕ} 0 1 = cc in absurd (omega arith)
-no-number t broken e = refl
+no-number t x e = unmet number-apart (min cap) t x e
 
-pub number-found : (t : Bytes) (at v n : ℕ) → number.the-variants.Value v n ≡ numberAt t at → Numbered t (numeralOf (drop at t)) v n
+pub number-found : (t : Bytes) (at v n : ℕ) → number.the-variants.Value v n ≡ numberAt t at → Met (min cap) t (numeralOf (drop at t)) v n
 unfolding numberAt
 number-found t at v n e = numbered t (numeralOf (drop at t)) v n (rests-number t at) e
 
@@ -85,7 +92,7 @@ pub number-missing : (t : Bytes) (at : ℕ) → number.the-variants.Broken ≡ n
 unfolding numberAt
 number-missing t at e = no-number t (numeralOf (drop at t)) e
 
-pub then-found : (w t : Bytes) (at v n : ℕ) → number.the-variants.Value v n ≡ numberThenAt w t at → Numbered t (numberThen w (drop at t)) v n
+pub then-found : (w t : Bytes) (at v n : ℕ) → number.the-variants.Value v n ≡ numberThenAt w t at → Met (min cap) t (numberThen w (drop at t)) v n
 unfolding numberThenAt
 then-found w t at v n e = numbered t (numberThen w (drop at t)) v n (rests-then w t at) e
 
@@ -95,27 +102,13 @@ then-missing w t at e = no-number t (numberThen w (drop at t)) e
 
 -- ---- an integer
 
-pub record Signed (t : Bytes) (x : Reading ℤ) (v : ℤ) (n : ℕ) : Type 0 where
-  pub number : ℤ
-  pub is : x ≡ got number (drop n t)
-  pub value : v ≡ held number
-  pub within : n ≤ length t
+integer-apart : Apart whole.the-variants.Value whole.the-variants.Broken
+integer-apart = record { inj = λ a b n m e. ((cc), (cc)); apart = λ a n e. let z : _≡_ {A = ℕ} 0 1 = cc in omega arith }
 
-signed : (t : Bytes) (x : Reading ℤ) (v : ℤ) (n : ℕ) → Rests t x → whole.the-variants.Value v n ≡ integerIn t x → Signed t x v n
-signed t (got m r) v n h e =
-    let k : n ≡ endOf t r = cc in
-    let l : v ≡ held m = cc in
-    record { number = m; is = rw (k, h m r refl) refl; value = l; within = omega arith }
-signed t broken v n h e = let z : _≡_ {A = ℕ} 0 1 = cc in absurd (omega arith)
-
-no-integer : (t : Bytes) (x : Reading ℤ) → whole.the-variants.Broken ≡ integerIn t x → x ≡ broken
-no-integer t (got m r) e = let z : _≡_ {A = ℕ} 0 1 = cc in absurd (omega arith)
-no-integer t broken e = refl
-
-pub integer-found : (t : Bytes) (at : ℕ) (v : ℤ) (n : ℕ) → whole.the-variants.Value v n ≡ integerAt t at → Signed t (integer .read (drop at t)) v n
+pub integer-found : (t : Bytes) (at : ℕ) (v : ℤ) (n : ℕ) → whole.the-variants.Value v n ≡ integerAt t at → Met held t (integer .read (drop at t)) v n
 unfolding integerAt
-integer-found t at v n e = signed t (integer .read (drop at t)) v n (rests-form integer-exact t at) e
+integer-found t at v n e = met integer-apart held t (integer .read (drop at t)) (rests-form integer-exact t at) v n e
 
 pub integer-missing : (t : Bytes) (at : ℕ) → whole.the-variants.Broken ≡ integerAt t at → integer .read (drop at t) ≡ broken
 unfolding integerAt
-integer-missing t at e = no-integer t (integer .read (drop at t)) e
+integer-missing t at e = unmet integer-apart held t (integer .read (drop at t)) e

@@ -1,6 +1,6 @@
 -- What reading at a position of a text finds: what the definitions read from there on, with the position of the rest, and
 -- with numbers held at a cap that no range reaches.
-use Prim.Native.Nat.{ℕ, zero, suc, _+_, _-_, _*_, min}
+use Prim.Native.Nat.{ℕ, _+_, _-_, _*_, min}
 use mathlib.Core.List.{[], _∷_}
 use mathlib.Core.Bool.{cond}
 use lib.ListN.{length, drop}
@@ -19,9 +19,13 @@ use Rattle.text_scan.specs.declared.Digits.{Digits}
 abbrev pub endOf : Bytes → Bytes → ℕ
 endOf t r = length t - length r
 
+-- what was read, with the position of the rest
+abbrev pub placed : {A R : Type 0} → (A → ℕ → R) → R → Bytes → Reading A → R
+placed value none t (got a r) = value a (endOf t r)
+placed value none t broken = none
+
 abbrev pub foundIn : Bytes → Reading Unit → Found
-foundIn t (got u r) = At (endOf t r)
-foundIn t broken = Nothing
+foundIn = placed (λ _ n. At n) Nothing
 
 -- a word, byte for byte
 unfoldable pub wordAt : (word t : Bytes) → ℕ → Found
@@ -39,6 +43,7 @@ digitAt t at = digitOf (drop at t)
 abbrev pub cap : ℕ
 cap = 1_000_001
 
+-- one digit more
 abbrev pub heldDigit : ℕ → ℕ → ℕ
 heldDigit v d = min cap (v * 10 + d)
 
@@ -49,9 +54,9 @@ digitsIn t v b = record { value = min cap (valueFrom v (front b)); next = endOf 
 unfoldable pub digitsAt : Bytes → ℕ → ℕ → Digits
 digitsAt t v at = digitsIn t v (drop at t)
 
+-- a number, "`0` or digits without a leading zero", held
 abbrev pub numberIn : Bytes → Reading ℕ → number.Number
-numberIn t (got n r) = number.the-variants.Value (min cap n) (endOf t r)
-numberIn t broken = number.the-variants.Broken
+numberIn = placed (λ n. number.the-variants.Value (min cap n)) number.the-variants.Broken
 
 unfoldable pub numberAt : Bytes → ℕ → number.Number
 numberAt t at = numberIn t (numeralOf (drop at t))
@@ -68,9 +73,9 @@ abbrev pub held : ℤ → ℤ
 held (pos n) = pos (min cap n)
 held (negsuc n) = negsuc (min (cap - 1) n)
 
+-- "A minus may stand only .. before a non-zero number."
 abbrev pub integerIn : Bytes → Reading ℤ → integer.Integer
-integerIn t (got z r) = integer.the-variants.Value (held z) (endOf t r)
-integerIn t broken = integer.the-variants.Broken
+integerIn = placed (λ z. integer.the-variants.Value (held z)) integer.the-variants.Broken
 
 unfoldable pub integerAt : Bytes → ℕ → integer.Integer
 integerAt t at = integerIn t (form.integer .read (drop at t))

@@ -1,5 +1,5 @@
 -- `edge_of` meets its contract.
-use Rattle.pattern_read.specs.Turn.{edgeIn}
+use Rattle.pattern_read.specs.Turn.{edgeFrom}
 use borrow.Author.Needs.{needs}
 use Rattle.pattern_read.proofs.edge_of.Statement.{statement}
 use Rattle.pattern_read.proofs.edge_of.Tie as tie
@@ -11,7 +11,7 @@ index-requires-2 : tie.Need-index-requires-2
 index-requires-2 c κs = search needs
 
 returns : tie.Need-returns
-unfolding edgeIn
+unfolding edgeFrom
 returns c =
     let l = c .before .before .before .before .before .before .args .line in
     λ i. record { from = (c .before .before .before .index .ensures) i; to = (c .before .before .index2 .ensures) i; guards = l .guards .guards; count = l .guards .count; resets = l .resets .flags }

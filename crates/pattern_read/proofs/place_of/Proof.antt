@@ -1,11 +1,11 @@
 -- `place_of` meets its contract.
 use mathlib.Core.Path.{refl}
-use Rattle.pattern_read.specs.Turn.{placeIn}
+use Rattle.pattern_read.specs.Turn.{placeFrom}
 use Rattle.pattern_read.proofs.place_of.Statement.{statement}
 use Rattle.pattern_read.proofs.place_of.Tie as tie
 
 returns : tie.Need-returns
-unfolding placeIn
+unfolding placeFrom
 returns c = refl
 
 pub place-of-spec : {M : Type 1} → statement M

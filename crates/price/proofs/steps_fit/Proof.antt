@@ -1,5 +1,4 @@
-use native.Mathlib.Omega.{arith}
-use mathlib.Core.Path.{_≡_, refl, sym, ap, _∙_}
+-- `steps_fit` is what 9 asks.
 use borrow.Author.Needs.{needs}
 use Rattle.price.specs.Price.{stepsFit}
 use borrow.Author.Needs.{needs}

@@ -1,7 +1,7 @@
+-- `can_step` is the test of a step: edge, place, stay, guards.
 use Rattle.record.proofs.ListLaws.{getD-any}
 use Rattle.pattern.specs.Sound.{noEdge}
 use native.Mathlib.Omega.{arith}
-use mathlib.Core.Path.{_≡_, refl, sym, ap, _∙_}
 use borrow.Author.Needs.{needs}
 use borrow.Author.Tests.{lt-ltb, le-ltb}
 use Rattle.pattern.proofs.SoundLaws.{parts}

@@ -1,7 +1,8 @@
+-- `find` passes whole pieces: the begin is their total and the ticks used.
 use native.Mathlib.Omega.{arith}
-use mathlib.Core.Path.{_≡_, refl, sym, ap, _∙_}
+use mathlib.Core.Path.{_≡_}
 use Prim.Native.Nat.{_+_, _-_, _≤_, _<_}
-use lib.ListN.{length, take, getD}
+use lib.ListN.{length, take}
 use Rattle.record.specs.Record.{total}
 use Rattle.record.proofs.RecordLaws.{total-more, before-end}
 use Rattle.price.proofs.runs.find.Statement.{statement}

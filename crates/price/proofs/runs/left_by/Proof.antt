@@ -1,5 +1,6 @@
+-- `left_by` reads an edge, also past the last slot.
 use native.Mathlib.Omega.{arith}
-use mathlib.Core.Path.{_≡_, refl, sym, ap, _∙_}
+use mathlib.Core.Path.{_≡_, sym, ap}
 use borrow.Author.Needs.{needs}
 use lib.ListN.{length, length-map, List·getD-eq-default}
 use Rattle.pattern.specs.declared.Edge.{Edge}

@@ -1,10 +1,9 @@
+-- `run` makes step after step: what will come of it all stays the same.
 use Prim.Native.Nat.{_+_}
 use native.Mathlib.Omega.{arith}
-use mathlib.Core.Path.{_≡_, refl, sym, ap, _∙_}
-use borrow.Author.Needs.{needs}
+use mathlib.Core.Path.{_≡_, refl, _∙_}
 use Prim.Native.Nat.{_-_, _≤_}
-use mathlib.Core.List.{_∷_}
-use lib.ListN.{length, drop, getD}
+use lib.ListN.{length, drop}
 use Rattle.record.specs.Run.{stepsOf}
 use Rattle.price.specs.Stand.{outcome, Held}
 use Rattle.price.proofs.RunLaws.{steps-at, steps-none}

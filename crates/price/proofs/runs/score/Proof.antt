@@ -1,5 +1,6 @@
+-- `score` hands the part of the record from the begin's piece on.
 use native.Mathlib.Omega.{arith}
-use mathlib.Core.Path.{_≡_, refl, sym, ap, _∙_}
+use mathlib.Core.Path.{_≡_, ap, _∙_}
 use borrow.Author.Needs.{needs}
 use Prim.Native.Nat.{_*_, _≤_}
 use lib.ListN.{length}

@@ -1,7 +1,6 @@
+-- `start` stands at the begin.
 use Rattle.integers.proofs.Casts.{read-back}
 use mir.Syntax.{w64}
-use native.Mathlib.Omega.{arith}
-use mathlib.Core.Path.{_≡_, refl, sym, ap, _∙_}
 use borrow.Author.Needs.{needs}
 use borrow.Author.Needs.{needs}
 use Rattle.price.proofs.runs.start.Statement.{statement}

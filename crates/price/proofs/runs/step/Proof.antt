@@ -1,3 +1,4 @@
+-- `step` makes the step or stops: not going, too long for the record, or no step there.
 use Rattle.record.specs.Run.{Step}
 use Rattle.integers.proofs.Ranges.{abs-fits-64}
 use Rattle.integers.proofs.Casts.{read-back}
@@ -6,7 +7,7 @@ use mir.Syntax.{w64}
 use mathlib.Core.Logic.{⊎-elim}
 use Prim.Native.Nat.{_^_}
 use native.Mathlib.Omega.{arith}
-use mathlib.Core.Path.{_≡_, refl, sym, ap, _∙_}
+use mathlib.Core.Path.{_≡_, sym, _∙_}
 use borrow.Author.Needs.{needs}
 use Rattle.price.proofs.RunLaws.{room, not-going, not-fitting, not-able}
 use borrow.Author.Needs.{needs}

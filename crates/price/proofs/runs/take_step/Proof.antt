@@ -1,3 +1,4 @@
+-- `take_step` is a step that is made (RunLaws).
 use lib.IntN.{natAbs}
 use Rattle.record.specs.Run.{Step}
 use Rattle.integers.proofs.Ranges.{abs-fits-64}
@@ -13,9 +14,10 @@ use Rattle.pattern.specs.declared.Place.{Place}
 use Rattle.pattern.specs.declared.Edge.{Edge}
 use lib.ListN.{getD}
 use native.Mathlib.Omega.{arith}
-use mathlib.Core.Path.{_≡_, refl, sym, ap, _∙_}
+use mathlib.Core.Path.{_≡_}
 use borrow.Author.Needs.{needs}
-use Rattle.price.proofs.RunLaws.{can-parts, edge-at-sound, room, walks, made}
+use Rattle.record.proofs.StepLaws.{can-parts}
+use Rattle.price.proofs.RunLaws.{edge-at-sound, room, walks, made}
 use borrow.Author.Needs.{needs}
 use Rattle.price.proofs.runs.take_step.Statement.{statement}
 use Rattle.price.proofs.runs.take_step.Tie as tie

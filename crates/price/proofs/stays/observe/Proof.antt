@@ -1,3 +1,4 @@
+-- `observe` combines the worth of the piece, unless it joins.
 use Rattle.record.specs.Record.{sampleAt}
 use Rattle.pattern.specs.Distance.{placeWorth}
 use Rattle.integers.proofs.Casts.{read-back}
@@ -8,7 +9,7 @@ use lib.ListN.{take, drop}
 use mathlib.Core.List.{List}
 use Prim.Native.Nat.{ℕ, _+_, _*_, _-_}
 use native.Mathlib.Omega.{arith}
-use mathlib.Core.Path.{_≡_, refl, sym, ap, _∙_}
+use mathlib.Core.Path.{_≡_, ap, _∙_}
 use borrow.Author.Needs.{needs}
 use borrow.Author.Needs.{needs}
 use Rattle.price.proofs.stays.observe.Statement.{statement}

@@ -1,7 +1,7 @@
+-- `stay_in` goes through piece after piece: the end, and the worth there, stay the same.
 use Rattle.price.proofs.WalkLaws.{Far, far-none, far-more, far-all}
 use native.Mathlib.Omega.{arith}
-use mathlib.Core.Path.{_≡_, refl, sym, ap, _∙_}
-use borrow.Author.Needs.{needs}
+use mathlib.Core.Path.{refl}
 use Rattle.price.proofs.stays.stay_in.Statement.{statement}
 use Rattle.price.proofs.stays.stay_in.Tie as tie
 

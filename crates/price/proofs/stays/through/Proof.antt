@@ -1,3 +1,4 @@
+-- `through` is a turn of WalkLaws: the stay ends in the piece, or moves on.
 use Rattle.price.proofs.WalkLaws.{inside, below, observes, next, ends, moves}
 use Rattle.integers.proofs.Ranges.{abs-fits-64}
 use Rattle.integers.proofs.Casts.{read-back}
@@ -5,7 +6,7 @@ use mir.Val.{toZ, ofZ}
 use mir.Syntax.{w64}
 use Prim.Native.Nat.{_^_}
 use native.Mathlib.Omega.{arith}
-use mathlib.Core.Path.{_≡_, refl, sym, ap, _∙_}
+use mathlib.Core.Path.{_≡_, _∙_}
 use borrow.Author.Needs.{needs}
 use borrow.Author.Needs.{needs}
 use Rattle.price.proofs.stays.through.Statement.{statement}

@@ -1,5 +1,6 @@
+-- `all_in_range` looks at each value: the test of those passed.
 use native.Mathlib.Omega.{arith}
-use mathlib.Core.Path.{_≡_, refl, sym, ap, _∙_}
+use mathlib.Core.Path.{_≡_, refl, sym, _∙_}
 use Prim.Native.Nat.{_≤_, _-_}
 use lib.IntN.{pos}
 use mir.Syntax.{w32}

@@ -1,5 +1,6 @@
+-- `all_last` looks at each duration: the test of those passed.
 use native.Mathlib.Omega.{arith}
-use mathlib.Core.Path.{_≡_, refl, sym, ap, _∙_}
+use mathlib.Core.Path.{_≡_, refl, sym, _∙_}
 use Prim.Native.Nat.{_≤_, _-_}
 use lib.Dec.{leb}
 use lib.ListN.{length, take, getD}

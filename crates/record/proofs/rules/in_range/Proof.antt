@@ -1,5 +1,4 @@
-use native.Mathlib.Omega.{arith}
-use mathlib.Core.Path.{_≡_, refl, sym, ap, _∙_}
+-- `in_range` is the range of a value.
 use mir.Facts.{toZ-ofZ}
 use Rattle.pattern.proofs.BoundLaws.{sized}
 use Rattle.record.proofs.rules.in_range.Statement.{statement}

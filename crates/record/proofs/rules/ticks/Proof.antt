@@ -1,7 +1,8 @@
+-- `ticks` adds up the durations: the total of those passed, which is below 2^32 for each.
 use native.Mathlib.Omega.{arith}
-use mathlib.Core.Path.{_≡_, refl, sym, ap, _∙_}
+use mathlib.Core.Path.{_≡_, refl, sym, _∙_}
 use Prim.Native.Nat.{_*_, _≤_, _-_}
-use lib.ListN.{length, take, getD}
+use lib.ListN.{length, take}
 use lib.Seq.{take-all}
 use Rattle.record.specs.Record.{total}
 use Rattle.record.proofs.RecordLaws.{total-more}

@@ -1,3 +1,4 @@
+-- `same_sample` looks at each channel: the test of those passed.
 use native.Mathlib.Omega.{arith}
 use mathlib.Core.Path.{_≡_, refl, sym, ap, _∙_}
 use Prim.Native.Nat.{_≤_, _-_}

@@ -1,4 +1,4 @@
-use native.Mathlib.Omega.{arith}
+-- `same_value`: two i32 have the same bits exactly if they are the same.
 use mathlib.Core.Path.{_≡_, refl, sym, ap, _∙_}
 use mathlib.Core.Bool.{Bool, true, false}
 use borrow.Author.Tests.{eqb-true, eqb-false}

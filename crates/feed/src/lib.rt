@@ -1,0 +1,240 @@
+// Opening a monitor and feeding it a piece. The state goes in by value and comes back beside the answer.
+use cells::layout_of;
+use feed_checks::feed_refusal;
+use feed_checks::open_refusal;
+use feed_ticks::kind_flags;
+use feed_ticks::tell_all;
+use feed_ticks::view_in;
+use monitor::After;
+use monitor::Answer;
+use monitor::State;
+use pattern::Pattern;
+use record::samples::same_sample;
+use table::clear;
+ghost use mathlib.Core.Path.{_≡_};
+ghost use mathlib.Core.Bool.{true, false, not};
+ghost use mathlib.Core.Option.{none};
+ghost use Prim.Native.Nat.{suc, _≤_};
+ghost use mathlib.Core.List.{_++_, map};
+ghost use lib.ListN.{length, take, drop};
+ghost use lib.IntN.{pos};
+ghost use Rattle.pattern.specs.Sound.{soundOf};
+ghost use Rattle.pattern.specs.Cells.{cellsNeeded};
+ghost use Rattle.pattern.specs.Slots.{all};
+ghost use Rattle.record.specs.Record.{valueInRange};
+ghost use Rattle.record.specs.Joined.{sameSample};
+ghost use Rattle.monitor.specs.Cells.{upTo, heldBy, written};
+ghost use Rattle.monitor.specs.Tick.{openTable, ticksLater, reportOf, scoreIn, lengthIn};
+ghost use Rattle.monitor.specs.State.{noTicks, lastSample, pieceLater};
+ghost use Rattle.monitor.specs.Open.{marks, openRefusal, openFirst, openSecond};
+ghost use Rattle.monitor.specs.Feed.{isNew, pieceView, cellFine, feedCause, tableAfter, reportAfter};
+ghost use Rattle.monitor.specs.Feed.{feedFirst, feedSecond, feedScores, feedLengths};
+ghost use Rattle.feed.specs.After.{openedOf, callOf, fedOf};
+
+// Are the piece's values new to the state's last ones?
+fn is_new(p: Pattern, s: State, values: &[i32]) -> bool
+    requires { ⌜ p .channels ≤ 8 ⌝ }
+    ensures { λ r. ⌜ r ≡ isNew p s (now (values .entry)) ⌝ }
+{
+    let n = p.channels as usize;
+    let last = s.last;
+    !same_sample(values, &last[..n])
+}
+
+// No ticks, zeros.
+fn no_ticks() -> State
+    ensures { λ r. ⌜ r ≡ noTicks ⌝ }
+{
+    State {
+        ticks: 0,
+        last: [0, 0, 0, 0, 0, 0, 0, 0],
+    }
+}
+
+// The needed cells of the second table are all marks.
+fn mark_all(p: Pattern, second: &mut [i64])
+    requires { ⌜ soundOf p ≡ true ⌝ }
+    requires { ⌜ cellsNeeded p ≤ length (now second) ⌝ }
+    ensures { λ _. ⌜ now (second .exit) ≡ marks p (now (second .entry)) ⌝ }
+{
+    let l = layout_of(p, p.high);
+    clear(second, 0, (l.high + 1) * l.row);
+}
+
+// What opening does when it is not refused.
+fn open_both(p: Pattern, first: &mut [i64], second: &mut [i64])
+    requires { ⌜ soundOf p ≡ true ⌝ }
+    requires { ⌜ cellsNeeded p ≤ length (now first) ⌝ }
+    requires { ⌜ cellsNeeded p ≤ length (now second) ⌝ }
+    ensures { λ _. ⌜ now (first .exit) ≡ written p (openTable p) (now (first .entry)) ⌝ }
+    ensures { λ _. ⌜ now (second .exit) ≡ marks p (now (second .entry)) ⌝ }
+{
+    let l = layout_of(p, p.high);
+    let w = p.weighing;
+    let starts = kind_flags(false, p);
+    table::open(first, l, w, starts);
+    mark_all(p, second);
+}
+
+// Opening: 7, 11; else no ticks, the empty runs, and marks.
+pub fn open(s: State, p: Pattern, first: &mut [i64], second: &mut [i64]) -> After
+    ensures { λ r. ⌜ r ≡ openedOf p (now (first .entry)) (now (second .entry)) s ⌝ }
+    ensures { λ _. ⌜ now (first .exit) ≡ openFirst p (now (first .entry)) (now (second .entry)) ⌝ }
+    ensures { λ _. ⌜ now (second .exit) ≡ openSecond p (now (first .entry)) (now (second .entry)) ⌝ }
+{
+    match open_refusal(p, first.len(), second.len()) {
+        Answer::Done => {
+            open_both(p, first, second);
+            let none = no_ticks();
+            After {
+                state: none,
+                answer: Answer::Done,
+            }
+        }
+        Answer::Refused(r) => After {
+            state: s,
+            answer: Answer::Refused(r),
+        },
+    }
+}
+
+// The piece's values, then what stood behind them.
+fn last_after(last: [i32; 8], values: &[i32]) -> [i32; 8]
+    requires { ⌜ length (now values) ≤ 8 ⌝ }
+    ensures { λ r. ⌜ r ≡ now (values .entry) ++ drop (length (now (values .entry))) last ⌝ }
+{
+    let mut kept = last;
+    let mut i: usize = 0;
+    while i < values.len() {
+        let value = values[i];
+        kept[i] = value;
+        i += 1;
+    }
+    kept
+}
+
+// The ticks of a piece, each with its report.
+fn tell_piece(
+    p: Pattern,
+    new: bool,
+    duration: u32,
+    values: &[i32],
+    first: &mut [i64],
+    scores: &mut [i64],
+    lengths: &mut [u32],
+)
+    requires { ⌜ (soundOf p ≡ true) × (all valueInRange (now values) ≡ true)
+        × (cellsNeeded p ≤ length (now first)) × (all cellFine (take (cellsNeeded p) (now first)) ≡ true)
+        × (duration ≤ length (now scores)) × (duration ≤ length (now lengths)) ⌝ }
+    ensures { λ _. ⌜ now (first .exit)
+        ≡ written p (ticksLater p (pieceView p new (now (values .entry))) (heldBy p (now (first .entry))) duration) (now (first .entry)) ⌝ }
+    ensures { λ _. ⌜ now (scores .exit)
+        ≡ map (λ i. scoreIn (reportOf p (ticksLater p (pieceView p new (now (values .entry))) (heldBy p (now (first .entry))) (suc i)))) (upTo duration)
+        ++ drop duration (now (scores .entry)) ⌝ }
+    ensures { λ _. ⌜ now (lengths .exit)
+        ≡ map (λ i. lengthIn (reportOf p (ticksLater p (pieceView p new (now (values .entry))) (heldBy p (now (first .entry))) (suc i)))) (upTo duration)
+        ++ drop duration (now (lengths .entry)) ⌝ }
+{
+    let l = layout_of(p, p.high);
+    let w = p.weighing;
+    let v = view_in(p, values, new);
+    let u = view_in(p, values, false);
+    let edges = p.edges;
+    let starts = kind_flags(false, p);
+    let ends = kind_flags(true, p);
+    let count = p.edgecount as usize;
+    let low = p.low as usize;
+    tell_all(
+        first,
+        scores,
+        lengths,
+        duration as usize,
+        l,
+        w,
+        v,
+        u,
+        edges,
+        count,
+        starts,
+        ends,
+        low,
+    );
+}
+
+// What feeding does when it is not refused.
+fn feed_piece(
+    s: State,
+    p: Pattern,
+    first: &mut [i64],
+    second: &mut [i64],
+    duration: u32,
+    values: &[i32],
+    scores: &mut [i64],
+    lengths: &mut [u32],
+) -> State
+    requires { ⌜ feedCause p s (now first) (length (now second)) duration (now values) (length (now scores)) (length (now lengths)) ≡ none ⌝ }
+    ensures { λ r. ⌜ r ≡ pieceLater p s duration (now (values .entry)) ⌝ }
+    ensures { λ _. ⌜ now (first .exit)
+        ≡ written p (tableAfter p s (now (first .entry)) (now (values .entry)) duration) (now (first .entry)) ⌝ }
+    ensures { λ _. ⌜ now (second .exit) ≡ marks p (now (second .entry)) ⌝ }
+    ensures { λ _. ⌜ now (scores .exit)
+        ≡ map (λ i. scoreIn (reportAfter p s (now (first .entry)) (now (values .entry)) i)) (upTo duration) ++ drop duration (now (scores .entry)) ⌝ }
+    ensures { λ _. ⌜ now (lengths .exit)
+        ≡ map (λ i. lengthIn (reportAfter p s (now (first .entry)) (now (values .entry)) i)) (upTo duration) ++ drop duration (now (lengths .entry)) ⌝ }
+{
+    let new = is_new(p, s, values);
+    tell_piece(p, new, duration, values, first, scores, lengths);
+    mark_all(p, second);
+    let before = s.last;
+    let last = last_after(before, values);
+    State {
+        ticks: s.ticks + duration,
+        last: last,
+    }
+}
+
+// Feeding a piece: 7, 12, 11, 8, 13, 14, 6; else a score and a length for each tick.
+pub fn feed(
+    s: State,
+    p: Pattern,
+    first: &mut [i64],
+    second: &mut [i64],
+    duration: u32,
+    values: &[i32],
+    scores: &mut [i64],
+    lengths: &mut [u32],
+) -> After
+    ensures { λ r. ⌜ r ≡ fedOf p s (now (first .entry)) (now (second .entry))
+        (callOf duration (now (values .entry)) (now (scores .entry)) (now (lengths .entry))) ⌝ }
+    ensures { λ _. ⌜ now (first .exit) ≡ feedFirst p s (now (first .entry)) (now (second .entry))
+        (callOf duration (now (values .entry)) (now (scores .entry)) (now (lengths .entry))) ⌝ }
+    ensures { λ _. ⌜ now (second .exit) ≡ feedSecond p s (now (first .entry)) (now (second .entry))
+        (callOf duration (now (values .entry)) (now (scores .entry)) (now (lengths .entry))) ⌝ }
+    ensures { λ _. ⌜ now (scores .exit) ≡ feedScores p s (now (first .entry)) (now (second .entry))
+        (callOf duration (now (values .entry)) (now (scores .entry)) (now (lengths .entry))) ⌝ }
+    ensures { λ _. ⌜ now (lengths .exit) ≡ feedLengths p s (now (first .entry)) (now (second .entry))
+        (callOf duration (now (values .entry)) (now (scores .entry)) (now (lengths .entry))) ⌝ }
+{
+    match feed_refusal(
+        p,
+        s,
+        first,
+        second.len(),
+        duration,
+        values,
+        scores.len(),
+        lengths.len(),
+    ) {
+        Answer::Done => {
+            let state = feed_piece(s, p, first, second, duration, values, scores, lengths);
+            After {
+                state: state,
+                answer: Answer::Done,
+            }
+        }
+        Answer::Refused(r) => After {
+            state: s,
+            answer: Answer::Refused(r),
+        },
+    }
+}

@@ -1,0 +1,144 @@
+// What opening and feeding are refused for (document 01, 'Open', 'Feed a piece'): each cause, and the first of them.
+use monitor::Answer;
+use monitor::State;
+use pattern::Counted;
+use pattern::Pattern;
+use pattern::Refusal;
+use pattern::cells;
+use record::rules::all_in_range;
+use record::rules::in_range;
+use weighting::MARK;
+ghost use mathlib.Core.Path.{_≡_};
+ghost use mathlib.Core.Bool.{not, cond, _&&_, _||_};
+ghost use Prim.Native.Nat.{_≤_};
+ghost use lib.Dec.{ltb};
+ghost use lib.ListN.{length, take, drop};
+ghost use Rattle.pattern.specs.Slots.{all};
+ghost use Rattle.pattern.specs.Sound.{isNull};
+ghost use Rattle.record.specs.Record.{valueInRange};
+ghost use Rattle.monitor.specs.State.{stateSound};
+ghost use Rattle.monitor.specs.Open.{answerOf, openRefusal};
+ghost use Rattle.monitor.specs.Feed.{cellFine, pieceBroken, feedCause};
+
+// A last value of a channel in use is in range, and one of an unused channel is zero.
+fn value_fine(used: bool, value: i32) -> bool
+    ensures { λ r. ⌜ r ≡ cond used (valueInRange value) (isNull value) ⌝ }
+{
+    if used { in_range(value) } else { value == 0 }
+}
+
+// The last values of a state, of which the first `channels` are in use. More channels than values use them all.
+fn last_fine(last: [i32; 8], channels: u8) -> bool
+    ensures { λ r. ⌜ r ≡ all valueInRange (take channels last) && all isNull (drop channels last) ⌝ }
+{
+    let n = channels as usize;
+    let mut ok = true;
+    let mut i: usize = 0;
+    while i < 8 {
+        ok = ok & value_fine(i < n, last[i]);
+        i += 1;
+    }
+    ok
+}
+
+// Before the first piece no channel is in use yet.
+pub fn state_sound(p: Pattern, s: State) -> bool
+    ensures { λ r. ⌜ r ≡ stateSound p s ⌝ }
+{
+    let last = s.last;
+    (s.ticks <= 2147483647) & last_fine(last, p.channels) & (!(s.ticks == 0) | last_fine(last, 0))
+}
+
+// "duration 0 or over 65,535, a wrong count of values, a value out of range"
+pub fn piece_broken(p: Pattern, duration: u32, values: &[i32]) -> bool
+    ensures { λ r. ⌜ r ≡ pieceBroken p duration (now (values .entry)) ⌝ }
+{
+    !(((1 <= duration) & (duration <= 65535))
+        & (values.len() == p.channels as usize)
+        & all_in_range(values))
+}
+
+// "the mark" or "within ±32,760,000,000"
+fn cell_fine(cell: i64) -> bool
+    ensures { λ r. ⌜ r ≡ cellFine cell ⌝ }
+{
+    (cell == MARK) | ((-32760000000 <= cell) & (cell <= 32760000000))
+}
+
+// Of a table only the needed cells count.
+pub fn cells_broken(table: &[i64], needed: usize) -> bool
+    requires { ⌜ needed ≤ length (now table) ⌝ }
+    ensures { λ r. ⌜ r ≡ not (all cellFine (take needed (now (table .entry)))) ⌝ }
+{
+    let mut ok = true;
+    let mut i: usize = 0;
+    while i < needed {
+        ok = ok & cell_fine(table[i]);
+        i += 1;
+    }
+    !ok
+}
+
+// Either of two lengths is below what is needed.
+fn too_short(first: usize, second: usize, needed: u64) -> bool
+    ensures { λ r. ⌜ r ≡ ltb first needed || ltb second needed ⌝ }
+{
+    ((first as u64) < needed) | ((second as u64) < needed)
+}
+
+// Opening: 7, then 11. The tables' lengths are all that counts of them.
+pub fn open_refusal(p: Pattern, first: usize, second: usize) -> Answer
+    ensures { λ r. ⌜ r ≡ answerOf (openRefusal p first second) ⌝ }
+{
+    match cells(p) {
+        Counted::Cells(needed) => {
+            if too_short(first, second, needed) {
+                Answer::Refused(Refusal::TableTooShort)
+            } else {
+                Answer::Done
+            }
+        }
+        Counted::Refused(_) => Answer::Refused(Refusal::UnsoundPattern),
+    }
+}
+
+// Feeding: 7, 12, 11, 8, 13, 14, 6, each looked for only where the ones before it give no cause. Of the second table
+// and of the report slices only the lengths count.
+pub fn feed_refusal(
+    p: Pattern,
+    s: State,
+    first: &[i64],
+    second: usize,
+    duration: u32,
+    values: &[i32],
+    scores: usize,
+    lengths: usize,
+) -> Answer
+    ensures { λ r. ⌜ r ≡ answerOf
+        (feedCause p s (now (first .entry)) second duration (now (values .entry)) scores lengths) ⌝ }
+{
+    match cells(p) {
+        Counted::Cells(needed) => {
+            if !state_sound(p, s) {
+                return Answer::Refused(Refusal::BrokenState);
+            }
+            if too_short(first.len(), second, needed) {
+                return Answer::Refused(Refusal::TableTooShort);
+            }
+            if piece_broken(p, duration, values) {
+                return Answer::Refused(Refusal::BrokenRecord);
+            }
+            if 2147483647 < s.ticks as u64 + duration as u64 {
+                return Answer::Refused(Refusal::TooManyTicks);
+            }
+            if cells_broken(first, needed as usize) {
+                return Answer::Refused(Refusal::BrokenCell);
+            }
+            if too_short(scores, lengths, duration as u64) {
+                return Answer::Refused(Refusal::OutputTooShort);
+            }
+            Answer::Done
+        }
+        Counted::Refused(_) => Answer::Refused(Refusal::UnsoundPattern),
+    }
+}

@@ -1,0 +1,4 @@
+-- What a loop stores.
+pub mod Stores
+pub mod ReportLength
+pub mod Told

@@ -1,0 +1,98 @@
+use native.Mathlib.Omega.{arith}
+use Prim.Native.Nat.{_-_}
+use mathlib.Core.Path.{_≡_, sym, ap, subst, _∙_}
+use lib.ListN.{length}
+use Rattle.table.specs.declared.View.{View}
+use Rattle.table.specs.Asks.{Ticking}
+use Rattle.feed_ticks.specs.Ticks.{groundOf, tableTo, scoresTo, lengthsTo}
+use Rattle.feed_ticks.proofs.Told.{Told, told-none, ticking-at, told-more}
+use Rattle.feed_ticks.proofs.tell_all.Statement.{statement}
+use Rattle.feed_ticks.proofs.tell_all.Tie as tie
+
+abbrev Inv-loop : tie.InvT-loop
+Inv-loop first₀ scores₀ lengths₀ duration l w v u edges count starts ends low i₀ first scores lengths i =
+    Told (groundOf l w edges count starts ends low) v u first₀ scores₀ lengths₀ duration i first scores lengths
+
+abbrev μ-loop : tie.MeasureT-loop
+μ-loop first₀ scores₀ lengths₀ duration l w v u edges count starts ends low i₀ first scores lengths i =
+    duration - i
+
+loop-holds : tie.Need-loop-holds Inv-loop μ-loop
+loop-holds c =
+    let a = c .before .args in
+    told-none (groundOf (a .l) (a .w) (a .edges) (a .count) (a .starts) (a .ends) (a .low)) (a .v) (a .u) (a .first .now) (a .scores .now) (a .lengths .now) (a .duration) (c .before .pre)
+
+view-at-requires : tie.Need-view-at-requires Inv-loop μ-loop
+view-at-requires c κs = tt
+
+tell-requires : tie.Need-tell-requires Inv-loop μ-loop
+tell-requires c κs =
+    let b = c .before .before .before .before .before .before .before in
+    let a = b .args in
+    let l = c .before .before .before .before .before .loop in
+    let t = c .before .before .before .before .loop-test .taken in
+    let sl = l .inv .scores-long in
+    let nl = l .inv .lengths-long in
+    let sr = b .pre .scoresLong in
+    let nr = b .pre .lengthsLong in (
+      subst (λ (x : View). Ticking (l .first) (a .l) x (a .edges) (a .count)) (sym (c .before .before .before .view-at .ensures)) (ticking-at (groundOf (a .l) (a .w) (a .edges) (a .count) (a .starts) (a .ends) (a .low)) (a .v) (a .u) (a .first .now) (a .scores .now) (a .lengths .now) (a .duration) (b .pre) (l .i) (l .first) (l .scores) (l .lengths) (l .inv)),
+      b .pre .low,
+      omega arith,
+      omega arith,
+    )
+
+add-i : tie.Need-add-i Inv-loop μ-loop
+add-i c = omega arith
+
+loop-less : tie.Need-loop-less Inv-loop μ-loop
+loop-less c = omega arith
+
+loop-again : tie.Need-loop-again Inv-loop μ-loop
+loop-again c =
+    let b = c .before .before .before .before .before .before .before .before .before .before .before .before in
+    let a = b .args in
+    let l = c .before .before .before .before .before .before .before .before .before .before .loop in
+    let e = c .before .before .before .before .tell .ensures in
+    let q = c .before .before .before .before .before .before .before .before .view-at .ensures in
+    told-more (groundOf (a .l) (a .w) (a .edges) (a .count) (a .starts) (a .ends) (a .low)) (a .v) (a .u) (a .first .now) (a .scores .now) (a .lengths .now) (a .duration) (b .pre) (l .i) (l .first) (l .scores) _ _ (l .lengths) _ (l .inv) (c .before .before .before .before .before .before .before .before .before .loop-test .taken)
+    (rw q at (e .0)) (rw q at (e .1 .0)) (rw q at (e .1 .1))
+
+same-length : tie.Need-same-length Inv-loop μ-loop
+same-length c = c .before .loop .inv .first-long
+
+same-length-2 : tie.Need-same-length-2 Inv-loop μ-loop
+same-length-2 c = c .before .loop .inv .scores-long
+
+same-length-3 : tie.Need-same-length-3 Inv-loop μ-loop
+same-length-3 c = c .before .loop .inv .lengths-long
+
+returns : tie.Need-returns Inv-loop μ-loop
+returns c =
+    let l = c .before .loop in
+    let a = c .before .before .before .args in
+    let low = l .inv .low in
+    let i-is : l .i ≡ a .duration = omega arith in
+    let g = groundOf (a .l) (a .w) (a .edges) (a .count) (a .starts) (a .ends) (a .low) in (
+      l .inv .first-is ∙ ap (tableTo g (a .v) (a .u) (a .first .now)) i-is,
+      (
+        l .inv .scores-are ∙ ap (scoresTo g (a .v) (a .u) (a .first .now) (a .scores .now)) i-is,
+        l .inv .lengths-are ∙ ap (lengthsTo g (a .v) (a .u) (a .first .now) (a .lengths .now)) i-is,
+      ),
+    )
+
+pub tell-all-spec : {M : Type 1} → statement M
+tell-all-spec =
+    tie.close
+    (tie.spec
+    Inv-loop
+    μ-loop
+    loop-holds
+    view-at-requires
+    tell-requires
+    add-i
+    loop-less
+    loop-again
+    same-length
+    same-length-2
+    same-length-3
+    returns)

@@ -1,0 +1,167 @@
+// The ticks of a piece over the cells: what stands still during a piece is made once, then each tick is told.
+use cells::Layout;
+use pattern::Edge;
+use pattern::Kind;
+use pattern::Pattern;
+use pattern::Place;
+use pattern::distance::place_worth;
+use pattern::is_end;
+use pattern::is_start;
+use table::View;
+use table::report::report_of;
+use table::tick;
+use weighting::Weighing;
+use weighting::unit;
+ghost use mathlib.Core.Path.{_≡_};
+ghost use Rattle.book.specs.View.{counts, gainIn};
+ghost use Prim.Native.Nat.{_+_, _≤_, _<_};
+ghost use lib.ListN.{length, set};
+ghost use Rattle.table.specs.Moves.{tickOf};
+ghost use Rattle.table.specs.Reports.{reportOf};
+ghost use Rattle.table.specs.Asks.{Ticking};
+ghost use Rattle.feed_ticks.specs.Ticks.{kindFlag, kindFlags, viewIn, viewAt, groundOf};
+ghost use Rattle.feed_ticks.specs.Ticks.{Telling, tableTo, scoresTo, lengthsTo};
+
+fn kind_flag(ending: bool, k: Kind) -> bool
+    ensures { λ r. ⌜ r ≡ kindFlag ending k ⌝ }
+{
+    if ending { is_end(k) } else { is_start(k) }
+}
+
+// For each place whether a run may end there, or else begin there.
+pub fn kind_flags(ending: bool, p: Pattern) -> [bool; 16]
+    ensures { λ r. ⌜ r ≡ kindFlags ending p ⌝ }
+{
+    let mut flags = [false; 16];
+    let mut i: usize = 0;
+    while i < 16 {
+        let l = p.places[i];
+        let k = l.kind;
+        flags[i] = kind_flag(ending, k);
+        i += 1;
+    }
+    flags
+}
+
+// Does a tick count: in margin always, in sum at a just entered place or a new observation.
+fn tick_counts(w: Weighing, new: bool, entered: bool) -> bool
+    ensures { λ r. ⌜ r ≡ counts w new entered ⌝ }
+{
+    match w {
+        Weighing::Margin => true,
+        Weighing::Sum => entered | new,
+    }
+}
+
+fn gain(w: Weighing, l: Place, values: &[i32], new: bool, entered: bool) -> i64
+    ensures { λ r. ⌜ r ≡ gainIn w l (now (values .entry)) new entered ⌝ }
+{
+    if tick_counts(w, new, entered) {
+        place_worth(w, l, values)
+    } else {
+        unit(w)
+    }
+}
+
+// What a tick gains in each place: in those just entered, and in those stayed in.
+pub fn view_in(p: Pattern, values: &[i32], new: bool) -> View
+    ensures { λ r. ⌜ r ≡ viewIn p (now (values .entry)) new ⌝ }
+{
+    let w = p.weighing;
+    let mut entered = [0i64; 16];
+    let mut staying = [0i64; 16];
+    let mut i: usize = 0;
+    while i < 16 {
+        let l = p.places[i];
+        entered[i] = gain(w, l, values, new, true);
+        staying[i] = gain(w, l, values, new, false);
+        i += 1;
+    }
+    View {
+        entered: entered,
+        staying: staying,
+    }
+}
+
+// The first tick sees one view, the later ones another.
+fn view_at(first: View, later: View, i: usize) -> View
+    ensures { λ r. ⌜ r ≡ viewAt first later i ⌝ }
+{
+    if i == 0 { first } else { later }
+}
+
+// One tick over the table, and its report in place i.
+fn tell(
+    first: &mut [i64],
+    scores: &mut [i64],
+    lengths: &mut [u32],
+    i: usize,
+    l: Layout,
+    w: Weighing,
+    v: View,
+    edges: [Edge; 32],
+    count: usize,
+    starts: [bool; 16],
+    ends: [bool; 16],
+    low: usize,
+)
+    requires { ⌜ (Ticking (now first) l v edges count)
+        × (low ≤ l .high + 1) × (i < length (now scores)) × (i < length (now lengths)) ⌝ }
+    ensures { λ _. ⌜ now (first .exit) ≡ tickOf l w v edges count starts (now (first .entry)) ⌝ }
+    ensures { λ _. ⌜ now (scores .exit)
+        ≡ set (now (scores .entry)) i (reportOf l w ends low (tickOf l w v edges count starts (now (first .entry))) .score) ⌝ }
+    ensures { λ _. ⌜ now (lengths .exit)
+        ≡ set (now (lengths .entry)) i (reportOf l w ends low (tickOf l w v edges count starts (now (first .entry))) .length) ⌝ }
+{
+    tick(first, l, w, v, edges, count, starts);
+    let r = report_of(first, l, w, ends, low);
+    let score = r.score;
+    let ticks = r.length as u32;
+    scores[i] = score;
+    lengths[i] = ticks;
+}
+
+// All ticks of a piece, each with its report.
+pub fn tell_all(
+    first: &mut [i64],
+    scores: &mut [i64],
+    lengths: &mut [u32],
+    duration: usize,
+    l: Layout,
+    w: Weighing,
+    v: View,
+    u: View,
+    edges: [Edge; 32],
+    count: usize,
+    starts: [bool; 16],
+    ends: [bool; 16],
+    low: usize,
+)
+    requires { ⌜ Telling (groundOf l w edges count starts ends low) v u (now first)
+        (length (now scores)) (length (now lengths)) duration ⌝ }
+    ensures { λ _. ⌜ now (first .exit) ≡ tableTo (groundOf l w edges count starts ends low) v u (now (first .entry)) duration ⌝ }
+    ensures { λ _. ⌜ now (scores .exit)
+        ≡ scoresTo (groundOf l w edges count starts ends low) v u (now (first .entry)) (now (scores .entry)) duration ⌝ }
+    ensures { λ _. ⌜ now (lengths .exit)
+        ≡ lengthsTo (groundOf l w edges count starts ends low) v u (now (first .entry)) (now (lengths .entry)) duration ⌝ }
+{
+    let mut i: usize = 0;
+    while i < duration {
+        let seen = view_at(v, u, i);
+        tell(
+            first,
+            scores,
+            lengths,
+            i,
+            l,
+            w,
+            seen,
+            edges,
+            count,
+            starts,
+            ends,
+            low,
+        );
+        i += 1;
+    }
+}

@@ -1,0 +1,109 @@
+-- How large worths come: "within ±32,760,000,000". A cell of length n is within 8,000,000 × n in sum, and within 2,000,001 in
+-- margin.
+use Prim.Native.Nat.{ℕ, zero, suc, _+_, _*_, _≤_, _<_, max}
+use native.Mathlib.Omega.{arith}
+use native.Mathlib.Nat.{mul-le-mul-left}
+use mathlib.Core.Path.{_≡_, refl, sym, ap, subst, _∙_}
+use mathlib.Core.List.{List, [], _∷_, List·Memᴰ}
+use mathlib.Core.Option.{Option, none, some, Option·some-injective}
+use mathlib.Core.Bool.{Bool, true, false, not, cond, _&&_}
+use borrow.Author.Tests.{ltb-true, ltb-false, eqb-true}
+use lib.Dec.{T, eqb, ltb}
+use lib.ListN.{length, take, getD}
+use lib.IntN.{ℤ, pos, natAbs}
+use Rattle.integers.proofs.Ranges.{abs-add, abs-min}
+use Rattle.weighting.specs.declared.Weighing.{Weighing}
+use Rattle.weighting.specs.declared.Weighing.the-variants.{Margin, Sum}
+use Rattle.weighting.specs.Weighting.{combineFrom}
+use Rattle.weighting.specs.Weightings.{weightingOf}
+use Rattle.weighting.specs.Cell.{mark}
+use Rattle.pattern.specs.declared.Place.{Place}
+use Rattle.pattern.specs.declared.Pattern.{Pattern}
+use Rattle.pattern.specs.InUse.{placeAt}
+use Rattle.pattern.specs.Slots.{all}
+use Rattle.pattern.specs.Sound.{isPlain, placeUnused, soundOf}
+use Rattle.pattern.specs.Clocks.{Clocks}
+use Rattle.pattern.specs.Distance.{Sample, distancesOf, placeWorth}
+use Rattle.pattern.proofs.SoundLaws.{both, parts}
+use Rattle.record.specs.Record.{Book, valueInRange}
+use Rattle.record.specs.Joined.{sameSample}
+use Rattle.record.proofs.PlaceLaws.{place-at-sound, margin-place-size, place-size}
+use Rattle.walks.specs.Automaton.{State, View}
+use Rattle.walks.specs.Tables.{Table, opening, tableAt}
+use Rattle.walks.proofs.States.{opening-holds}
+use Rattle.walks.proofs.Kept.{kept}
+use Rattle.book.specs.View.{counts, gainIn, sampleAt, before, viewOf}
+use Rattle.book.proofs.SameClocks.{sameClocks}
+use Rattle.monitor.specs.Cells.{cellStates}
+use Rattle.monitor.specs.Tick.{heldAutomaton, openTable, ticksLater}
+use Rattle.monitor.proofs.CellLaws.{past-unused}
+
+-- the size of a worth of length l
+abbrev pub Sized : Weighing → ℕ → ℤ → Type 0
+Sized Margin l z = natAbs z ≤ 2000001
+Sized Sum l z = natAbs z ≤ 8000000 * l
+
+pub unit-sized : (w : Weighing) → Sized w 0 (weightingOf w .unit)
+unit-sized Margin = omega arith
+unit-sized Sum = omega arith
+
+-- the size of a gain
+abbrev pub GainSized : Weighing → ℤ → Type 0
+GainSized Margin g = natAbs g ≤ 2000001
+GainSized Sum g = natAbs g ≤ 8000000
+
+combine-sized : (w : Weighing) (l : ℕ) (z g : ℤ) → Sized w l z → GainSized w g → Sized w (suc l) (weightingOf w .combine z g)
+combine-sized Margin l z g h k = omega (arith, abs-min z g)
+combine-sized Sum l z g h k = omega (arith, abs-add z g)
+
+-- what is sized is within the limit
+pub sized-low : (w : Weighing) (l : ℕ) (z : ℤ) → l ≤ 4095 → Sized w l z → natAbs z ≤ 32760000000
+sized-low Margin l z h k = omega arith
+sized-low Sum l z h k = omega arith
+
+-- ---- the gains of a book's ticks
+
+module _ (p : Pattern) (sound : soundOf p ≡ true) where
+  -- a place past the last has no tests
+  past-worth : (w : Weighing) (k : ℕ) (x : Sample) → p .placecount ≤ k → placeWorth w (placeAt p k) x ≡ weightingOf w .unit
+  unfolding placeWorth distancesOf placeUnused combineFrom
+  past-worth w k x h =
+      let e : placeAt p k .count ≡ 0 = eqb-true _ _ (both (isPlain (placeAt p k .kind)) (eqb (placeAt p k .count) 0) (both (isPlain (placeAt p k .kind) && eqb (placeAt p k .count) 0) _ (past-unused p sound k h) .0) .1) in
+      rw e
+
+  place-sized : (w : Weighing) (k : ℕ) (x : Sample) → all valueInRange x ≡ true → GainSized w (placeWorth w (placeAt p k) x)
+  place-sized w k x h = by (ltb k (p .placecount)) refl
+    where
+      unit-gain : (w : Weighing) → GainSized w (weightingOf w .unit)
+      unit-gain Margin = omega arith
+      unit-gain Sum = omega arith
+
+      here : (w : Weighing) → k < p .placecount → GainSized w (placeWorth w (placeAt p k) x)
+      here Margin l = margin-place-size (p .channels) (placeAt p k) x (place-at-sound p k sound l) h
+      here Sum l = place-size (p .channels) (placeAt p k) x (place-at-sound p k sound l) h Sum
+
+      by : (t : Bool) → ltb k (p .placecount) ≡ t → GainSized w (placeWorth w (placeAt p k) x)
+      by true e = here w (ltb-true _ _ e)
+      by false e = rw (past-worth w k x (ltb-false _ _ e)) (unit-gain w)
+
+  pub gain-sized : (w : Weighing) (k : ℕ) (x : Sample) (t : Bool) → all valueInRange x ≡ true → GainSized w (cond t (placeWorth w (placeAt p k) x) (weightingOf w .unit))
+  gain-sized w k x true h = place-sized w k x h
+  gain-sized Margin k x false h = omega arith
+  gain-sized Sum k x false h = omega arith
+
+  open-sized : (s : State Clocks) (z : ℤ) → openTable p s ≡ some z → Sized (p .weighing) (s .len) z
+  open-sized s z e =
+      let h = opening-holds (weightingOf (p .weighing)) (heldAutomaton p) sameClocks s z e in
+      let l : s .len ≡ 0 = ap (λ (x : State Clocks). x .len) (h .1) in
+      rw (l, h .2) (unit-sized (p .weighing))
+
+  -- every cell of a table that ticks of such samples made from the opening
+  pub table-sized : (b : Book) → ((t : ℕ) → all valueInRange (sampleAt b t) ≡ true) → (n : ℕ) (s : State Clocks) (z : ℤ) → List·Memᴰ s (cellStates p)
+      → ticksLater p (viewOf p b) (openTable p) n s ≡ some z → Sized (p .weighing) (s .len) z
+  unfolding gainIn
+  table-sized b fine n s z m e =
+      kept (weightingOf (p .weighing)) (heldAutomaton p) sameClocks (p .high) (cellStates p)
+      (Sized (p .weighing)) (unit-sized (p .weighing)) (viewOf p b)
+      (λ t f k g l w q h. combine-sized (p .weighing) l w g h (subst (GainSized (p .weighing)) (Option·some-injective _ g q) (gain-sized (p .weighing) k (sampleAt b t) (counts (p .weighing) (not (sameSample (sampleAt b t) (before p b t))) f) (fine t))))
+      (openTable p) (λ x w i q. open-sized x w q)
+      n s z m e

@@ -1,0 +1,69 @@
+-- What was written into cells is held by them, and further cells are as they were.
+use Prim.Native.Nat.{ℕ, suc, _+_, _-_, _≤_, _<_}
+use native.Mathlib.Omega.{arith}
+use mathlib.Core.Path.{_≡_, refl, sym, ap, _∙_}
+use mathlib.Core.List.{List, [], _∷_, _++_, map}
+use mathlib.Core.Option.{Option, none, some}
+use mathlib.Core.Bool.{Bool, true, false, cond, _||_, or-true}
+use borrow.Author.Tests.{le-leb}
+use lib.Dec.{leb}
+use lib.ListN.{length, take, drop, getD, length-append, length-drop, length-map, length-take, replicate, length-replicate}
+use lib.Seq.{getD-take}
+use lib.IntN.{ℤ, natAbs}
+use Rattle.integers.specs.Equal.{eqZ}
+use Rattle.integers.proofs.Equal.{eq-self}
+use Rattle.weighting.specs.Cell.{mark, cellOf, heldIn}
+use Rattle.weighting.proofs.Cell.{NoMark, heldIn-cellOf, cellOf-heldIn}
+use Rattle.pattern.specs.declared.Pattern.{Pattern}
+use Rattle.pattern.specs.Slots.{all}
+use Rattle.pattern.specs.Sound.{soundOf}
+use Rattle.pattern.specs.Clocks.{Clocks}
+use Rattle.pattern.specs.Cells.{cellsNeeded}
+use Rattle.walks.specs.Automaton.{State}
+use Rattle.walks.specs.Tables.{Table}
+use Rattle.monitor.specs.Cells.{upTo, stateAt, indexOf, isCell, heldBy, written}
+use Rattle.monitor.specs.Open.{marks}
+use Rattle.monitor.specs.Feed.{cellFine, cellsBroken}
+use Rattle.monitor.proofs.Numbers.{from-length, made-front}
+use Rattle.monitor.proofs.CellLaws.{Celled, is-cell, state-back, index-low, at-index, celled-at}
+
+module _ (p : Pattern) (sound : soundOf p ≡ true) where
+  pub held-written : (U : Table ℤ Clocks) (t : List ℤ) (s : State Clocks) → Celled p sound s → NoMark (U s) → heldBy p (written p U t) s ≡ U s
+  unfolding heldBy written
+  held-written U t s h n =
+      rw (is-cell p sound s h, made-front (λ i. cellOf (U (stateAt p i))) (cellsNeeded p) (indexOf p s) mark (drop (cellsNeeded p) t) (index-low p sound s h), state-back p sound s h)
+      (heldIn-cellOf (U s) n)
+
+  pub written-length : (U : Table ℤ Clocks) (t : List ℤ) → cellsNeeded p ≤ length t → length (written p U t) ≡ length t
+  unfolding written
+  written-length U t h =
+      let f : List ℤ = map (λ i. cellOf (U (stateAt p i))) (upTo (cellsNeeded p)) in
+      let e : length f ≡ cellsNeeded p = length-map (upTo (cellsNeeded p)) (λ i. cellOf (U (stateAt p i))) ∙ from-length 0 (cellsNeeded p) in
+      length-append f (drop (cellsNeeded p) t) ∙ (let d = length-drop (cellsNeeded p) t in omega arith)
+
+  pub marks-length : (u : List ℤ) → cellsNeeded p ≤ length u → length (marks p u) ≡ length u
+  marks-length u h = length-append (replicate (cellsNeeded p) mark) (drop (cellsNeeded p) u) ∙ (let d = length-drop (cellsNeeded p) u in let r = length-replicate (cellsNeeded p) mark in omega arith)
+
+  -- a cell holds what it says
+  cell-says : (t : List ℤ) (i : ℕ) → i < cellsNeeded p → getD t i mark ≡ cellOf (heldBy p t (stateAt p i))
+  unfolding heldBy
+  cell-says t i h = rw (is-cell p sound (stateAt p i) (celled-at p sound i h), at-index p sound i h) (sym (cellOf-heldIn (getD t i mark)))
+
+  -- ---- cells in range
+
+  fine-of : (o : Option ℤ) → ((z : ℤ) → o ≡ some z → natAbs z ≤ 32760000000) → cellFine (cellOf o) ≡ true
+  unfolding cellFine
+  fine-of none h = rw (eq-self mark)
+  fine-of (some z) h = rw (le-leb _ _ (h z refl)) (or-true (eqZ z mark))
+
+  all-at : {A : Type 0} (f : A → Bool) (d : A) (l : List A) → ((i : ℕ) → i < length l → f (getD l i d) ≡ true) → all f l ≡ true
+  all-at f d [] h = refl
+  all-at f d (x ∷ l) h = rw (h 0 (omega arith), all-at f d l (λ i k. h (suc i) (omega arith)))
+
+  pub cells-fine : (t : List ℤ) → cellsNeeded p ≤ length t → ((s : State Clocks) (z : ℤ) → Celled p sound s → heldBy p t s ≡ some z → natAbs z ≤ 32760000000) → cellsBroken p t ≡ false
+  unfolding cellsBroken
+  cells-fine t long h =
+      let e = length-take (cellsNeeded p) t in
+      rw (all-at cellFine mark (take (cellsNeeded p) t)
+      (λ i l. let k : i < cellsNeeded p = omega arith in
+      rw (getD-take (cellsNeeded p) t i mark k, cell-says t i k) (fine-of (heldBy p t (stateAt p i)) (λ z q. h (stateAt p i) z (celled-at p sound i k) q))))

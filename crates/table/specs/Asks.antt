@@ -1,0 +1,80 @@
+-- What the functions ask of a layout, a view, edges and a table.
+use Prim.Native.Nat.{ℕ, _+_, _*_, _^_, _≤_, _<_}
+use mathlib.Core.Path.{_≡_}
+use mathlib.Core.List.{List}
+use mathlib.Core.Logic.{_⊎_}
+use lib.ListN.{length}
+use lib.IntN.{ℤ, natAbs}
+use Rattle.weighting.specs.Cell.{mark}
+use Rattle.pattern.specs.declared.Edge.{Edge}
+use Rattle.cells.specs.declared.Layout.{Layout}
+use Rattle.cells.specs.Layout.{cellsIn, Laid}
+use Rattle.table.specs.declared.View.{View}
+use Rattle.table.specs.Moves.{cellAt, gainAt, edgeIn}
+
+-- z is the mark, or at most k in size.
+abbrev pub Sized : ℕ → ℤ → Type 0
+Sized k z = (z ≡ mark) ⊎ (natAbs z ≤ k)
+
+-- ---- what is public
+
+-- The layout, the view of a tick and the edges fit together: each gain is the mark or at most 8,000,000 in size (four
+-- tests of at most 2,000,000), and each edge leads from a place to a place.
+pub record Known (l : Layout) (v : View) (es : List Edge) (count : ℕ) : Type 0 where
+  pub laid : Laid l
+  pub entered : (p : ℕ) → p < l .places → Sized 8000000 (gainAt (v .entered) p)
+  pub staying : (p : ℕ) → p < l .places → Sized 8000000 (gainAt (v .staying) p)
+  pub edges : count ≤ 32
+  pub froms : (i : ℕ) → i < count → edgeIn es i .from < l .places
+  pub tos : (i : ℕ) → i < count → edgeIn es i .to < l .places
+
+-- The table has all cells, and a cell of length n holds the mark or a worth of at most 32,760,000,000 + n × 8,000,000
+-- in size. A tick leaves it so.
+pub record Whole (t : List ℤ) (l : Layout) : Type 0 where
+  pub inside : cellsIn l ≤ length t
+  pub bounded : (n i : ℕ) → n ≤ l .high → i < l .row → Sized (32760000000 + n * 8000000) (cellAt t (n * l .row + i))
+
+-- What one tick asks.
+pub record Ticking (t : List ℤ) (l : Layout) (v : View) (es : List Edge) (count : ℕ) : Type 0 where
+  pub known : Known l v es count
+  pub whole : Whole t l
+
+-- What opening and a report ask.
+pub record Filed (t : List ℤ) (l : Layout) : Type 0 where
+  pub laid : Laid l
+  pub inside : cellsIn l ≤ length t
+
+-- ---- within a tick
+
+-- The n cells from a hold marks or worths that can grow.
+pub record Bounded (t : List ℤ) (a n : ℕ) : Type 0 where
+  pub at : (k : ℕ) → k < n → Sized (2 ^ 60) (cellAt t (a + k))
+
+-- A block can be moved from `at` to `to`.
+pub record Along (t : List ℤ) (l : Layout) (g : ℤ) (at to : ℕ) : Type 0 where
+  pub laid : Laid l
+  pub gain : Sized 8000000 g
+  pub apart : at + l .block ≤ to
+  pub inside : to + l .block ≤ length t
+  pub bounded : Bounded t at (l .block)
+
+-- Row n can be moved.
+pub record Ready (t : List ℤ) (l : Layout) (n : ℕ) : Type 0 where
+  pub inside : cellsIn l ≤ length t
+  pub low : n < l .high
+  pub bounded : Bounded t (n * l .row) (l .row)
+
+-- Row n can be moved along an edge.
+pub record Follow (t : List ℤ) (l : Layout) (e : Edge) (g h : ℤ) (n stage : ℕ) : Type 0 where
+  pub laid : Laid l
+  pub from : e .from < l .places
+  pub to : e .to < l .places
+  pub entered : Sized 8000000 g
+  pub staying : Sized 8000000 h
+  pub stages : stage ≤ 1
+  pub ready : Ready t l n
+
+-- The rows below `high` can be moved.
+pub record Rows (t : List ℤ) (l : Layout) : Type 0 where
+  pub inside : cellsIn l ≤ length t
+  pub bounded : Bounded t 0 (l .high * l .row)
