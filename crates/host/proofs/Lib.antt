@@ -1,0 +1,2 @@
+-- Laws: what a host program written in C is told.
+pub mod NumberLaws

@@ -1,0 +1,2 @@
+-- Definitions: what a host program written in C is told.
+pub mod Numbers
