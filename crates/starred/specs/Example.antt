@@ -5,10 +5,11 @@
 --   (place end)
 --   (edge 0 1 (< 0 3) (reset 0))
 --   (edge 1 2 (<= 0 2))
-use mathlib.Core.List.{_∷_, _++_}
+use Prim.Native.Nat.{ℕ}
+use mathlib.Core.List.{List, [], _∷_, _++_}
 use mathlib.Core.Bool.{true, false}
 use lib.ListN.{replicate}
-use lib.IntN.{pos}
+use lib.IntN.{ℤ, pos}
 use Rattle.weighting.specs.declared.Weighing.{Weighing}
 use Rattle.pattern.specs.declared.Sign.the-variants.{Less, AtMost, More}
 use Rattle.pattern.specs.declared.Kind.the-variants.{Start, Plain, End}
@@ -45,3 +46,10 @@ example w =
           }
           ∷ replicate 30 noEdge;
     }
+
+-- Document 01's record ('The watch program'): (piece 2 10), (piece 2 40).
+abbrev pub durations : List ℕ
+durations = 2 ∷ 2 ∷ []
+
+abbrev pub values : List ℤ
+values = pos 10 ∷ pos 40 ∷ []
