@@ -37,10 +37,10 @@ use Rattle.monitor.specs.State.{noTicks}
 use Rattle.monitor.specs.Open.{answerOf, unlessRefused, marks, tableTooShort, openRefusal, openState, openFirst, openSecond}
 use Rattle.monitor.specs.Feed.{Call, feedRefusal, tableAfter, reportAfter, feedState, feedFirst, feedSecond, feedScores, feedLengths}
 use Rattle.monitor.specs.Demand.{refusalBy, bookAfter, InWindow, BestRun, NoRun, Accepted, Rejected, Right, AllRight, Demand3}
-use Rattle.monitor.proofs.Numbers.{made-front, made-rest}
+use Rattle.monitor.proofs.Numbers.{made-front, made-rest, told-length}
 use Rattle.monitor.proofs.CellLaws.{closed, of-cells}
 use Rattle.monitor.proofs.Written.{held-written, written-length, marks-length}
-use Rattle.monitor.proofs.Between.{no-cause, neither, Fine, Between, next, refusal-is, ticks-in, go-on, next-length, cell-no-mark}
+use Rattle.monitor.proofs.Between.{no-cause, neither, Fine, Between, next, refusal-is, ticks-in, go-on, next-length, piece, cell-no-mark}
 
 -- ---- a report, in document 01's words
 
@@ -113,6 +113,8 @@ module _ (p : Pattern) (b : Book) (s : State) (t u : List ℤ) (h : Between p b 
           answer = ap answerOf feed-given;
           reports = λ i l. same-said (length b + i + 1) _ _ _ _ _ _ book-is (score-at i l) (length-at i l)
               (report-right p (h .sound) (next p b s t u h c none-given) (length b + i + 1) (let e = next-length p b s t u h c none-given in omega arith));
+          scoresLong = ap length scores-are ∙ told-length (λ i. scoreIn (reportAfter p s t (c .values) i)) (c .duration) (c .scores) (piece p b s t u h c none-given .scores);
+          lengthsLong = ap length lengths-are ∙ told-length (λ i. lengthIn (reportAfter p s t (c .values) i)) (c .duration) (c .lengths) (piece p b s t u h c none-given .lengths);
           laterScores = ap (drop (c .duration)) scores-are ∙ made-rest (λ i. scoreIn (reportAfter p s t (c .values) i)) (c .duration) (drop (c .duration) (c .scores));
           laterLengths = ap (drop (c .duration)) lengths-are ∙ made-rest (λ i. lengthIn (reportAfter p s t (c .values) i)) (c .duration) (drop (c .duration) (c .lengths));
         }

@@ -1,10 +1,10 @@
 -- The numbers below n, and what is made of each of them.
-use Prim.Native.Nat.{ℕ, zero, suc, _+_, _≤_, _<_}
+use Prim.Native.Nat.{ℕ, zero, suc, _+_, _-_, _≤_, _<_}
 use native.Mathlib.Omega.{arith}
 use mathlib.Core.Path.{_≡_, refl, sym, ap, subst, _∙_}
 use mathlib.Core.Logic.{⊎-elim}
 use mathlib.Core.List.{List, [], _∷_, _++_, map, List·Memᴰ, List·Memᴰ·head, List·Memᴰ·tail, List·Memᴰ·cases-cons, List·Memᴰ·not-nil}
-use lib.ListN.{length, take, drop, getD, length-map, List·getD-append}
+use lib.ListN.{length, take, drop, getD, length-map, length-append, length-drop, List·getD-append}
 use lib.Seq.{drop-at, take-at}
 use Rattle.monitor.specs.Cells.{from, upTo}
 
@@ -46,3 +46,11 @@ module _ {A : Type 0} (f : ℕ → A) where
 
   pub made-rest : (n : ℕ) (l : List A) → drop n (map f (upTo n) ++ l) ≡ l
   made-rest n l = drop-at (map f (upTo n)) l n (length-map (upTo n) f ∙ from-length 0 n)
+
+  -- once the first n places of a list are made anew, it is as long as before
+  pub told-length : (n : ℕ) (l : List A) → n ≤ length l → length (map f (upTo n) ++ drop n l) ≡ length l
+  told-length n l h =
+      let a = length-append (map f (upTo n)) (drop n l) in
+      let e : length (map f (upTo n)) ≡ n = length-map (upTo n) f ∙ from-length 0 n in
+      let d = length-drop n l in
+      omega arith

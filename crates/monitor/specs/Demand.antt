@@ -1,7 +1,7 @@
--- Demand 3 (document 01, 'Monitor tables'): one claim about the whole list of feeds after an opening.
--- "For every list of feeds after an accepted opening, refused feeds included and pieces cut anywhere, at every tick of every
--- accepted feed, score and length are together those of some run in the window that ends there; none is better, none as
--- good is shorter; 'no run' exactly if there is none."
+-- Demand 3 (document 01, 'Monitor tables'): "a single claim about the whole list of feeds after an opening, not one for each
+-- call". Proved in proofs/Demand.antt. For every list of feeds after an accepted opening, refused feeds included and pieces
+-- cut anywhere, at every tick of every accepted feed, score and length are together those of some run in the window that
+-- ends there; none is better, none as good is shorter; and they are 0 and 0 exactly if there is none.
 use Prim.Native.Nat.{ℕ, _+_, _≤_, _<_}
 use mathlib.Core.Path.{_≡_}
 use mathlib.Core.Logic.{_⊎_}
@@ -14,6 +14,7 @@ use Rattle.weighting.specs.Weightings.{weightingOf}
 use Rattle.pattern.specs.declared.Pattern.{Pattern}
 use Rattle.pattern.specs.declared.Refusal.{Refusal}
 use Rattle.pattern.specs.declared.Refusal.the-variants.{BrokenRecord, TooManyTicks, OutputTooShort}
+use Rattle.pattern.specs.Refusal.{numberOf}
 use Rattle.record.specs.Record.{Book}
 use Rattle.book.specs.Claims.{Priced}
 use Rattle.monitor.specs.declared.State.{State}
@@ -68,10 +69,12 @@ module _ (p : Pattern) where
     pub reports : (i : ℕ) → i < c .duration
         → BestRun p (bookAfter p b c) (length b + i + 1) (getD (feedScores p s t u c) i (pos 0)) (getD (feedLengths p s t u c) i 0)
         ⊎ NoRun p (bookAfter p b c) (length b + i + 1) (getD (feedScores p s t u c) i (pos 0)) (getD (feedLengths p s t u c) i 0)
+    pub scoresLong : length (feedScores p s t u c) ≡ length (c .scores)
+    pub lengthsLong : length (feedLengths p s t u c) ≡ length (c .lengths)
     pub laterScores : drop (c .duration) (feedScores p s t u c) ≡ drop (c .duration) (c .scores)
     pub laterLengths : drop (c .duration) (feedLengths p s t u c) ≡ drop (c .duration) (c .lengths)
 
-  -- A refused call: it "writes no report place", and nothing else.
+  -- A refused call: "A refused feed writes no report place", and the state and both tables are as they were too.
   pub record Rejected (r : Refusal) (s : State) (t u : List ℤ) (c : Call) : Type 0 where
     pub answer : feedAnswer p s t u c ≡ Refused r
     pub state : feedState p s t u c ≡ s
@@ -80,7 +83,7 @@ module _ (p : Pattern) where
     pub scores : feedScores p s t u c ≡ c .scores
     pub lengths : feedLengths p s t u c ≡ c .lengths
 
-  -- A call, by what the book says of it.
+  -- A call that finds this book is accepted or refused as `refusalBy` says.
   abbrev pub Right : Option Refusal → Book → State → (first second : List ℤ) → Call → Type 0
   Right none b s t u c = Accepted b s t u c
   Right (some r) b s t u c = Rejected r s t u c
@@ -97,3 +100,9 @@ abbrev pub Demand3 : Type 0
 Demand3 =
     (p : Pattern) (s : State) (t u : List ℤ) → openRefusal p (length t) (length u) ≡ none → (calls : List Call)
     → AllRight p [] (openState p t u s) (openFirst p t u) (openSecond p t u) calls
+
+-- "no other cause can arise in such a list": by Demand3 a call's answer is that of `refusalBy`, and this is 8, 13 or 6.
+abbrev pub OnlyThreeCauses : Type 0
+OnlyThreeCauses =
+    (p : Pattern) (b : Book) (c : Call) (r : Refusal) → refusalBy p b c ≡ some r
+    → (numberOf r ≡ 8) ⊎ (numberOf r ≡ 13) ⊎ (numberOf r ≡ 6)

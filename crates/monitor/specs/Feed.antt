@@ -1,6 +1,7 @@
 -- Feeding a piece (document 01, 'Feed a piece'): what it answers, and what the state, both tables and both report slices
 -- are afterwards, for every content of what is lent.
 use Prim.Native.Nat.{ℕ, zero, suc, _+_}
+use mathlib.Core.Path.{_≡_}
 use mathlib.Core.List.{List, [], _∷_, _++_, map}
 use mathlib.Core.Option.{Option, none, some}
 use mathlib.Core.Bool.{Bool, true, false, not, cond, _&&_, _||_}
@@ -27,7 +28,7 @@ use Rattle.monitor.specs.declared.Answer.{Answer}
 use Rattle.monitor.specs.Cells.{upTo, heldBy, written}
 use Rattle.monitor.specs.Tick.{ticksLater, reportOf, scoreIn, lengthIn}
 use Rattle.monitor.specs.State.{lastSample, stateSound, pieceLater}
-use Rattle.monitor.specs.Open.{answerOf, unlessRefused, firstCause, tableTooShort, marks}
+use Rattle.monitor.specs.Open.{answerOf, answerNumber, unlessRefused, firstCause, tableTooShort, marks}
 
 -- A piece and two report slices: what a call brings beside the pattern, the state and the tables.
 pub record Call : Type 0 where
@@ -89,7 +90,7 @@ pieceView p new vs (suc t) = tickView p vs false
 abbrev pub tableAfter : Pattern → State → (first : List ℤ) → Sample → ℕ → Table ℤ Clocks
 tableAfter p s t vs n = ticksLater p (pieceView p (isNew p s vs) vs) (heldBy p t) n
 
--- ---- the call
+-- ---- the call: what it answers, and what the state and both tables are afterwards; at a refusal as they were
 
 abbrev pub feedAnswer : Pattern → State → (first second : List ℤ) → Call → Answer
 feedAnswer p s t u c = answerOf (feedRefusal p s t u c)
@@ -119,3 +120,16 @@ feedLengths p s t u c =
     unlessRefused (feedRefusal p s t u c)
     (map (λ i. lengthIn (reportAfter p s t (c .values) i)) (upTo (c .duration)) ++ drop (c .duration) (c .lengths))
     (c .lengths)
+
+-- Theorem: what feeding answers, in document 01's numbers.
+abbrev pub FeedNumbers : Type 0
+FeedNumbers =
+    (p : Pattern) (s : State) (t u : List ℤ) (c : Call)
+    → answerNumber (feedAnswer p s t u c)
+    ≡ cond (not (soundOf p)) 7
+    (cond (not (stateSound p s)) 12
+    (cond (tableTooShort p (length t) (length u)) 11
+    (cond (pieceBroken p (c .duration) (c .values)) 8
+    (cond (tooManyTicks (s .ticks) (c .duration)) 13
+    (cond (cellsBroken p t) 14
+    (cond (reportsTooShort (length (c .scores)) (length (c .lengths)) (c .duration)) 6 0))))))

@@ -1,5 +1,6 @@
 -- Opening (document 01, 'Open': 7; 11, a table shorter than the cells needed).
 use Prim.Native.Nat.{ℕ}
+use mathlib.Core.Path.{_≡_}
 use mathlib.Core.List.{List, [], _∷_, _++_}
 use mathlib.Core.Option.{Option, none, some}
 use mathlib.Core.Bool.{Bool, not, cond, _||_}
@@ -11,6 +12,7 @@ use Rattle.pattern.specs.declared.Pattern.{Pattern}
 use Rattle.pattern.specs.declared.Refusal.{Refusal}
 use Rattle.pattern.specs.declared.Refusal.the-variants.{UnsoundPattern, TableTooShort}
 use Rattle.pattern.specs.Sound.{soundOf}
+use Rattle.pattern.specs.Refusal.{numberOf}
 use Rattle.pattern.specs.Cells.{cellsNeeded}
 use Rattle.monitor.specs.declared.State.{State}
 use Rattle.monitor.specs.declared.Answer.{Answer}
@@ -23,6 +25,11 @@ use Rattle.monitor.specs.State.{noTicks}
 abbrev pub answerOf : Option Refusal → Answer
 answerOf none = Done
 answerOf (some r) = Refused r
+
+-- The number of an answer: 0 when done, else the refusal's.
+abbrev pub answerNumber : Answer → ℕ
+answerNumber Done = 0
+answerNumber (Refused r) = numberOf r
 
 -- what something lent is afterwards: as it was at a refusal
 abbrev pub unlessRefused : {A : Type 0} → Option Refusal → A → A → A
@@ -50,7 +57,8 @@ openAnswer p t u = answerOf (openRefusal p (length t) (length u))
 abbrev pub openState : Pattern → (first second : List ℤ) → State → State
 openState p t u s = unlessRefused (openRefusal p (length t) (length u)) noTicks s
 
--- "Between calls the first table holds this"
+-- "Between calls the first table holds this": at each time a start place with length 0, stage 0 and clocks 0 holds the empty
+-- run's worth, and after an opening no other cell holds a worth.
 abbrev pub openFirst : Pattern → (first second : List ℤ) → List ℤ
 openFirst p t u = unlessRefused (openRefusal p (length t) (length u)) (written p (openTable p) t) t
 
@@ -60,3 +68,9 @@ marks p u = replicate (cellsNeeded p) mark ++ drop (cellsNeeded p) u
 
 abbrev pub openSecond : Pattern → (first second : List ℤ) → List ℤ
 openSecond p t u = unlessRefused (openRefusal p (length t) (length u)) (marks p u) u
+
+-- Theorem: what opening answers, in document 01's numbers.
+abbrev pub OpenNumbers : Type 0
+OpenNumbers =
+    (p : Pattern) (t u : List ℤ)
+    → answerNumber (openAnswer p t u) ≡ cond (not (soundOf p)) 7 (cond (tableTooShort p (length t) (length u)) 11 0)

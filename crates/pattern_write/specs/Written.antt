@@ -1,4 +1,6 @@
 -- Write a pattern (document 01, 'Write a pattern').
+use mathlib.Core.Path.{_≡_}
+use Rattle.pattern.specs.Refusal.{numberOf}
 use Prim.Native.Nat.{ℕ}
 use mathlib.Core.Bool.{cond}
 use mathlib.Core.List.{_++_}
@@ -27,3 +29,15 @@ holding (Refused why) p out = out
 -- what the output holds afterwards
 abbrev pub outputOf : Pattern → Bytes → Bytes
 outputOf p out = holding (writtenOf p (length out)) p out
+
+-- What an answer says: the refusal's number (0 if there is none), and the text's length, zero beside a refusal.
+abbrev pub writtenAs : Written → ℕ × ℕ
+writtenAs (Length n) = (0, n)
+writtenAs (Refused r) = (numberOf r, 0)
+
+-- Theorem: what `write` answers, in document 01's numbers.
+abbrev pub WrittenNumbers : Type 0
+WrittenNumbers =
+    (p : Pattern) (room : ℕ)
+    → writtenAs (writtenOf p room)
+    ≡ cond (soundOf p) (cond (ltb room (length (renderOf p))) (6, 0) (0, length (renderOf p))) (7, 0)

@@ -2,3 +2,4 @@
 pub mod AheadLaws
 pub mod WalkLaws
 pub mod RunLaws
+pub mod Numbers

@@ -1,14 +1,16 @@
 -- The operation 'Price a run' (document 01, 'Operations and refusals'): 7, 8, 9, 10 in this order, else the score.
 use Prim.Native.Nat.{ℕ}
+use mathlib.Core.Path.{_≡_}
 use mathlib.Core.List.{List}
 use mathlib.Core.Option.{Option, none, some}
 use mathlib.Core.Bool.{Bool, cond, _&&_}
 use lib.Dec.{eqb, leb, ltb}
 use lib.ListN.{length}
-use lib.IntN.{ℤ}
+use lib.IntN.{ℤ, pos}
 use Rattle.pattern.specs.declared.Pattern.{Pattern}
 use Rattle.pattern.specs.declared.Refusal.the-variants.{UnsoundPattern, BrokenRecord, BrokenSteps, NotARun}
 use Rattle.pattern.specs.Sound.{soundOf}
+use Rattle.pattern.specs.Refusal.{numberOf}
 use Rattle.price.specs.declared.Priced.{Priced}
 use Rattle.price.specs.declared.Priced.the-variants.{Score, Refused}
 use Rattle.record.specs.Record.{total, recordSound, bookOf}
@@ -34,3 +36,23 @@ pricedOf p ds vs begin es ss =
     (Refused BrokenSteps))
     (Refused BrokenRecord))
     (Refused UnsoundPattern)
+
+-- What an answer says: the refusal's number (0 if there is none), and the score, zero beside a refusal.
+abbrev pub pricedAs : Priced → ℕ × ℤ
+pricedAs (Score w) = (0, w)
+pricedAs (Refused r) = (numberOf r, pos 0)
+
+abbrev pub scoredAs : Option ℤ → ℕ × ℤ
+scoredAs (some w) = (0, w)
+scoredAs none = (10, pos 0)
+
+-- Theorem: what `price` answers, in document 01's numbers.
+abbrev pub PricedNumbers : Type 0
+PricedNumbers =
+    (p : Pattern) (ds : List ℕ) (vs : List ℤ) (begin : ℕ) (es ss : List ℕ)
+    → pricedAs (pricedOf p ds vs begin es ss)
+    ≡ cond (soundOf p)
+    (cond (recordSound (p .channels) ds vs)
+    (cond (stepsFit ds begin es ss) (scoredAs (priceOf p (bookOf (p .channels) ds vs) begin (stepsOf es ss))) (9, pos 0))
+    (8, pos 0))
+    (7, pos 0)

@@ -20,16 +20,16 @@ use Rattle.pattern.specs.declared.Place.{Place}
 use Rattle.pattern.specs.declared.Pattern.{Pattern}
 use Rattle.pattern.specs.Sound.{noPlace}
 use Rattle.pattern.specs.Slots.{all}
-use Rattle.pattern.specs.Kinds.{isEnd}
+use Rattle.pattern.specs.Kinds.{isStart, isEnd}
 use Rattle.pattern.specs.Clocks.{Clocks, clockAt, zeroClocks, later, guardHolds, guardsHold}
 use Rattle.pattern.specs.InUse.{guardsOf, placeAt, edgeAt}
 use Rattle.pattern.specs.Distance.{Sample, placeWorth}
 use Rattle.pattern.proofs.SoundLaws.{both}
 use Rattle.record.specs.Record.{Piece, Book, ticksOf}
 use Rattle.record.specs.Joined.{sameSample, absorb, joined}
-use Rattle.record.specs.Run.{Step, canStep, clocksAfter, goes, isRun}
+use Rattle.record.specs.Run.{Step, canStep, clocksAfter, goes, isRun, endOf, lengthOf}
 use Rattle.record.specs.Worth.{stayWorth, stayWorths, runWorth, priceOf}
-use Rattle.record.specs.Claims.{CutsDoNotMatter, ObservedInOrder, MarginCountsTicks, EndPlaceIsSilent, ZeroGuardNeverHolds, withPlace}
+use Rattle.record.specs.Claims.{CutsDoNotMatter, ObservedInOrder, MarginCountsTicks, EndPlaceIsSilent, ZeroGuardNeverHolds, LengthIsStays, NeverARun, withPlace}
 use Rattle.record.proofs.StepLaws.{later-is, can-parts}
 use Rattle.record.proofs.JoinedLaws.{same-true, joined-fresh}
 
@@ -134,3 +134,33 @@ zero-guard-never-holds p k cs x g m sign bound clock =
     let holds = all-member (guardHolds (later (x .stay) cs)) (guardsOf (edgeAt p (x .edge))) g m (can .holds) in
     let low : leb (clockAt (later (x .stay) cs) (g .clock)) 0 ≡ true = rw (sign, bound) at holds in
     omega (arith, later-is (x .stay) (g .clock) cs clock, leb-true (clockAt (later (x .stay) cs) (g .clock)) 0 low))
+
+-- ---- a run's length
+
+pub length-is-stays : LengthIsStays
+unfolding endOf lengthOf
+length-is-stays begin [] = let z : begin ≡ begin + 0 = omega arith in z
+length-is-stays begin (x ∷ xs) =
+    let z : (begin + x .stay) + lengthOf xs ≡ begin + (x .stay + lengthOf xs) = omega arith in
+    length-is-stays (begin + x .stay) xs ∙ z
+
+-- ---- patterns that never have a run
+
+true-not-false : _≡_ {A = Bool} true false → ⊥
+true-not-false e = let z : _≡_ {A = ℕ} 0 1 = cc in omega arith
+
+goes-nowhere : (p : Pattern) → ((k : ℕ) → isEnd (placeAt p k .kind) ≡ false) → (k : ℕ) (cs : Clocks) (xs : List Step) → goes p k cs xs ≡ true → ⊥
+unfolding goes
+goes-nowhere p h k cs [] e = true-not-false (sym e ∙ h k)
+goes-nowhere p h k cs (x ∷ xs) e = goes-nowhere p h (edgeAt p (x .edge) .to) (clocksAfter p cs x) xs (both (canStep p k cs x) _ e .1)
+
+pub never-a-run : NeverARun
+unfolding isRun goes
+never-a-run p [] h = refl
+never-a-run p (x ∷ xs) h = is-false _ (λ e.
+    let r = both (isStart (placeAt p (edgeAt p (x .edge) .from) .kind)) (goes p (edgeAt p (x .edge) .from) zeroClocks (x ∷ xs)) e in
+    ⊎-elim (λ s. true-not-false (sym (r .0) ∙ s (edgeAt p (x .edge) .from)))
+    (⊎-elim (λ n. goes-nowhere p n (edgeAt p (x .edge) .from) zeroClocks (x ∷ xs) (r .1))
+    (λ n. let can = can-parts p (edgeAt p (x .edge) .from) zeroClocks x (both (canStep p (edgeAt p (x .edge) .from) zeroClocks x) _ (r .1) .0) in
+    let known = can .known in
+    omega arith)) h)

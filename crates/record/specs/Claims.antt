@@ -1,6 +1,7 @@
 -- What is proved of prices. The proofs are in proofs/.
 use Prim.Native.Nat.{ℕ, _+_, _<_}
 use mathlib.Core.Path.{_≡_}
+use mathlib.Core.Logic.{_⊎_}
 use mathlib.Core.List.{List, _∷_, _++_, map, List·Memᴰ}
 use mathlib.Core.Bool.{true, false, not}
 use lib.Dec.{eqb}
@@ -13,12 +14,13 @@ use Rattle.pattern.specs.declared.Guard.{Guard}
 use Rattle.pattern.specs.declared.Place.{Place}
 use Rattle.pattern.specs.declared.Pattern.{Pattern}
 use Rattle.pattern.specs.Slots.{all}
+use Rattle.pattern.specs.Kinds.{isStart, isEnd}
 use Rattle.pattern.specs.InUse.{guardsOf, placeAt, edgeAt}
 use Rattle.pattern.specs.Clocks.{Clocks}
 use Rattle.pattern.specs.Distance.{Sample, placeWorth}
 use Rattle.record.specs.Record.{Piece, Book, ticksOf}
 use Rattle.record.specs.Joined.{joined, freshAfter}
-use Rattle.record.specs.Run.{Step, canStep}
+use Rattle.record.specs.Run.{Step, canStep, isRun, endOf, lengthOf}
 use Rattle.record.specs.Worth.{priceOf}
 
 -- A piece cut in two, or two neighbours with equal values made one, changes no price.
@@ -64,3 +66,14 @@ abbrev pub ZeroGuardNeverHolds : Type 0
 ZeroGuardNeverHolds =
     (p : Pattern) (k : ℕ) (cs : Clocks) (x : Step) (g : Guard) → List·Memᴰ g (guardsOf (edgeAt p (x .edge)))
     → g .sign ≡ AtMost → g .bound ≡ 0 → g .clock < length cs → canStep p k cs x ≡ false
+
+-- A run's length, its end minus its begin, is the sum of its stays.
+abbrev pub LengthIsStays : Type 0
+LengthIsStays = (begin : ℕ) (xs : List Step) → endOf begin xs ≡ begin + lengthOf xs
+
+-- "A pattern without a start, an end or an edge .. never has a run."
+abbrev pub NeverARun : Type 0
+NeverARun =
+    (p : Pattern) (xs : List Step)
+    → ((k : ℕ) → isStart (placeAt p k .kind) ≡ false) ⊎ ((k : ℕ) → isEnd (placeAt p k .kind) ≡ false) ⊎ (p .edgecount ≡ 0)
+    → isRun p xs ≡ false

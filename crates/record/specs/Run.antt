@@ -37,7 +37,13 @@ isRun p [] = false
 isRun p (x ∷ xs) =
     isStart (placeAt p (edgeAt p (x .edge) .from) .kind) && goes p (edgeAt p (x .edge) .from) zeroClocks (x ∷ xs)
 
--- "A run's length is its end minus its begin": the stays, since no time passes in the end place.
+-- The time at which the last edge is taken, each stay beginning where the one before it ends; "no time passes" in the end
+-- place.
+unfoldable pub endOf : (begin : ℕ) → List Step → ℕ
+endOf begin [] = begin
+endOf begin (x ∷ xs) = endOf (begin + x .stay) xs
+
+-- All stays together. "A run's length is its end minus its begin": theorem LengthIsStays.
 unfoldable pub lengthOf : List Step → ℕ
 lengthOf [] = 0
 lengthOf (x ∷ xs) = x .stay + lengthOf xs
