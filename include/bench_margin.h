@@ -6,7 +6,7 @@
  *
  * A text is a pointer to its first byte and the number of its bytes. It need not end in a zero byte, and a zero byte in
  * it counts like any other. The functions read those bytes and no others, keep no pointer, and write nothing but their
- * own part of the stack (some 20 kilobytes), so any number of threads may call them at a time. The caller sees to it
+ * own part of the stack (24 kilobytes were seen), so any number of threads may call them at a time. The caller sees to it
  * that
  *   - `text` is not null, also where `length` is 0, and `length` bytes can be read there;
  *   - no other thread writes them during the call.
@@ -25,7 +25,8 @@ extern "C" {
 enum {
     PATTERN_ACCEPTED = 0,
     PATTERN_TEXT_TOO_LONG = 1, /* over 8,192 bytes */
-    PATTERN_BROKEN_FORM = 2,   /* empty text, a missing line feed, a line of the wrong kind, no place at all */
+    PATTERN_BROKEN_FORM = 2,   /* the form is broken: also empty text, a missing line feed, a line of the wrong kind,
+                                  no place at all */
     PATTERN_OUT_OF_RANGE = 3,  /* a number outside its range */
     PATTERN_TOO_MANY = 4,      /* a place, edge, test or guard too many */
     PATTERN_UNKNOWN_INDEX = 5  /* an index that the pattern lacks, or a reset not above the one before it */

@@ -66,7 +66,7 @@ clock : readText "(pattern margin 1 1 1 4)\n(place both)\n(edge 0 0 (< 1 3))\n" 
 unfolding readText
 clock = refl
 
--- a bound of 1,000,001; one of 1,000,000 is read
+-- a bound of -1,000,001; one of -1,000,000 is read
 bound : readText "(pattern sum 1 0 1 4)\n(place both (>= 0 -1000001))\n" ≡ refused OutOfRange
 unfolding readText
 bound = refl
