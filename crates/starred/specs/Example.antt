@@ -15,6 +15,7 @@ use Rattle.pattern.specs.declared.Sign.the-variants.{Less, AtMost, More}
 use Rattle.pattern.specs.declared.Kind.the-variants.{Start, Plain, End}
 use Rattle.pattern.specs.declared.Pattern.{Pattern}
 use Rattle.pattern.specs.Sound.{noTest, noPlace, noGuard, noEdge}
+use Rattle.record.specs.Record.{Book, bookOf}
 
 abbrev pub example : Weighing → Pattern
 example w =
@@ -53,3 +54,7 @@ durations = 2 ∷ 2 ∷ []
 
 abbrev pub values : List ℤ
 values = pos 10 ∷ pos 40 ∷ []
+
+-- Its ticks.
+abbrev pub book : Book
+book = bookOf 1 durations values
