@@ -17,6 +17,7 @@ use patterns::document;
 use patterns::fourth_decides;
 use patterns::fourth_kept;
 use patterns::no_clocks;
+use weighting::MARK;
 use weighting::Weighing;
 
 // A state that an opening must not keep.
@@ -227,10 +228,283 @@ fn cut_examples() {
     cuts(document(Weighing::Sum), &mut first, &mut second);
 }
 
+// A state as a host may lend it: channel 0 and channel 7 of the last values.
+fn lent(ticks: u32, value: i32, unused: i32) -> State {
+    State {
+        ticks: ticks,
+        last: [value, 0, 0, 0, 0, 0, 0, unused],
+    }
+}
+
+// 65,535 ticks are not too many, but 5 report places are too few.
+fn refused_durations(s: State, p: Pattern, first: &mut [i64], second: &mut [i64]) -> State {
+    let a = fed(b"duration 0", s, p, first, second, 0, 40);
+    let b = fed(b"duration 65536", a, p, first, second, 65536, 40);
+    fed(b"duration 65535", b, p, first, second, 65535, 40)
+}
+
+fn refused_values(s: State, p: Pattern, first: &mut [i64], second: &mut [i64]) -> State {
+    let a = fed(b"value 1000001", s, p, first, second, 2, 1000001);
+    fed(b"value -1000001", a, p, first, second, 2, -1000001)
+}
+
+// A value too few, and one too many.
+fn refused_counts(s: State, p: Pattern, first: &mut [i64], second: &mut [i64]) -> State {
+    let mut scores: [i64; 2] = [77; 2];
+    let mut lengths: [u32; 2] = [77; 2];
+    let two: [i32; 2] = [40, 40];
+    let a = fed_into(
+        b"no values",
+        s,
+        p,
+        first,
+        second,
+        2,
+        &two[..0],
+        &mut scores,
+        &mut lengths,
+    );
+    fed_into(
+        b"two values",
+        a,
+        p,
+        first,
+        second,
+        2,
+        &two,
+        &mut scores,
+        &mut lengths,
+    )
+}
+
+// Either report slice one place short.
+fn refused_slices(s: State, p: Pattern, first: &mut [i64], second: &mut [i64]) -> State {
+    let mut scores: [i64; 2] = [77; 2];
+    let mut lengths: [u32; 2] = [77; 2];
+    let mut few_scores: [i64; 1] = [77; 1];
+    let mut few_lengths: [u32; 1] = [77; 1];
+    let values: [i32; 1] = [40];
+    let a = fed_into(
+        b"scores one short",
+        s,
+        p,
+        first,
+        second,
+        2,
+        &values,
+        &mut few_scores,
+        &mut lengths,
+    );
+    fed_into(
+        b"lengths one short",
+        a,
+        p,
+        first,
+        second,
+        2,
+        &values,
+        &mut scores,
+        &mut few_lengths,
+    )
+}
+
+fn refused_feeds(s: State, p: Pattern, first: &mut [i64], second: &mut [i64]) -> State {
+    let a = refused_durations(s, p, first, second);
+    let b = refused_values(a, p, first, second);
+    let c = refused_counts(b, p, first, second);
+    refused_slices(c, p, first, second)
+}
+
+// A feed refused for ticks needs a state at the limit.
+fn refused_ticks(p: Pattern, first: &mut [i64], second: &mut [i64]) {
+    let full = lent(2147483647, 10, 0);
+    fed(b"ticks 2147483647", full, p, first, second, 1, 40);
+    put_tables(first, second);
+}
+
+fn first_half(p: Pattern, first: &mut [i64], second: &mut [i64]) -> State {
+    let none = opened(b"open", p, first, second);
+    fed(b"(piece 2 10)", none, p, first, second, 2, 10)
+}
+
+// The document's record with refused feeds between its pieces.
+fn refused_between(p: Pattern, first: &mut [i64], second: &mut [i64]) {
+    let half = first_half(p, first, second);
+    let same = refused_feeds(half, p, first, second);
+    refused_ticks(p, first, second);
+    fed(b"(piece 2 40)", same, p, first, second, 2, 40);
+    put_tables(first, second);
+}
+
+fn refused_examples() {
+    let mut first: [i64; 152] = [5; 152];
+    let mut second: [i64; 152] = [5; 152];
+    io::write_all(1, b"refused feeds between, margin\n");
+    refused_between(document(Weighing::Margin), &mut first, &mut second);
+    io::write_all(1, b"refused feeds between, sum\n");
+    refused_between(document(Weighing::Sum), &mut first, &mut second);
+}
+
+// A tick by a lent state over tables that no monitor wrote. Cell 51 is a stay of 1 tick in place 1, clock 1, worth 1000:
+// the tick's distance there is value - 5, and at clock 2 the run may end (72) or stay on (82). There is no empty run yet.
+// The two further cells are not looked at, nor is the second table.
+fn odd(label: &[u8], w: Weighing, s: State, value: i32, last_cell: i64) {
+    let mut first: [i64; 152] = [MARK; 152];
+    first[51] = 1000;
+    first[149] = last_cell;
+    first[150] = 32760000001;
+    first[151] = 5;
+    let mut second: [i64; 152] = [MARK; 152];
+    second[3] = 5;
+    second[150] = 5;
+    fed(label, s, document(w), &mut first, &mut second, 1, value);
+    put_tables(&first, &second);
+}
+
+// In sum the stay meets a new piece where the values differ from the state's last ones, at ticks 0 too.
+fn odd_tables() {
+    io::write_all(1, b"odd tables\n");
+    odd(
+        b"margin, last 10",
+        Weighing::Margin,
+        lent(5, 10, 0),
+        10,
+        MARK,
+    );
+    odd(b"sum, last 10", Weighing::Sum, lent(5, 10, 0), 10, MARK);
+    odd(b"sum, last 40", Weighing::Sum, lent(5, 40, 0), 10, MARK);
+    odd(
+        b"sum, no ticks, value 0",
+        Weighing::Sum,
+        lent(0, 0, 0),
+        0,
+        MARK,
+    );
+    odd(
+        b"sum, no ticks, value 10",
+        Weighing::Sum,
+        lent(0, 0, 0),
+        10,
+        MARK,
+    );
+}
+
+// Cell 149 has the greatest length: nothing comes of it.
+fn odd_cell(label: &[u8], worth: i64) {
+    odd(label, Weighing::Margin, lent(5, 10, 0), 10, worth);
+}
+
+fn odd_cells() {
+    odd_cell(b"cell 32760000000", 32760000000);
+    odd_cell(b"cell 32760000001", 32760000001);
+    odd_cell(b"cell -32760000000", -32760000000);
+    odd_cell(b"cell -32760000001", -32760000001);
+    odd_cell(b"cell -9223372036854775807", -9223372036854775807);
+}
+
+fn odd_state(label: &[u8], ticks: u32, value: i32, unused: i32) {
+    odd(
+        label,
+        Weighing::Margin,
+        lent(ticks, value, unused),
+        10,
+        MARK,
+    );
+}
+
+fn odd_states() {
+    odd_state(b"ticks 2147483646", 2147483646, 10, 0);
+    odd_state(b"ticks 2147483647", 2147483647, 10, 0);
+    odd_state(b"ticks 2147483648", 2147483648, 10, 0);
+    odd_state(b"last value 1000001", 5, 1000001, 0);
+    odd_state(b"last value -1000001", 5, -1000001, 0);
+    odd_state(b"an unused channel", 5, 10, 1);
+    odd_state(b"a value before the first piece", 0, 10, 0);
+}
+
+// The example needs 150 cells.
+fn short_first() {
+    let p = document(Weighing::Margin);
+    let mut first: [i64; 149] = [MARK; 149];
+    let mut second: [i64; 150] = [MARK; 150];
+    first[7] = 5;
+    second[7] = 5;
+    opened(b"open, first of 149", p, &mut first, &mut second);
+    let s = lent(5, 10, 0);
+    fed(b"feed, first of 149", s, p, &mut first, &mut second, 1, 10);
+    put_tables(&first, &second);
+}
+
+fn short_second() {
+    let p = document(Weighing::Margin);
+    let mut first: [i64; 150] = [MARK; 150];
+    let mut second: [i64; 149] = [MARK; 149];
+    first[7] = 5;
+    second[7] = 5;
+    opened(b"open, second of 149", p, &mut first, &mut second);
+    let s = lent(5, 10, 0);
+    fed(b"feed, second of 149", s, p, &mut first, &mut second, 1, 10);
+    put_tables(&first, &second);
+}
+
+// A pattern without channels is unsound; 7 comes before 11, and before 12.
+fn unsound() {
+    let mut p = document(Weighing::Margin);
+    p.channels = 0;
+    let mut first: [i64; 149] = [MARK; 149];
+    let mut second: [i64; 149] = [MARK; 149];
+    first[7] = 5;
+    second[7] = 5;
+    opened(b"open, 7 before 11", p, &mut first, &mut second);
+    let s = lent(2147483647, 10, 1);
+    fed(b"feed, 7 before 12", s, p, &mut first, &mut second, 0, 10);
+    put_tables(&first, &second);
+}
+
+// The causes of the later refusals are all there.
+fn state_and_tables_first() {
+    let p = document(Weighing::Margin);
+    let mut first: [i64; 149] = [MARK; 149];
+    let mut second: [i64; 149] = [MARK; 149];
+    first[7] = 32760000001;
+    let odd = lent(2147483647, 10, 1);
+    fed(b"12 before 11", odd, p, &mut first, &mut second, 65536, 10);
+    let full = lent(2147483647, 10, 0);
+    fed(b"11 before 8", full, p, &mut first, &mut second, 65536, 10);
+    put_tables(&first, &second);
+}
+
+fn piece_then_cells() {
+    let p = document(Weighing::Margin);
+    let mut first: [i64; 150] = [MARK; 150];
+    let mut second: [i64; 150] = [MARK; 150];
+    first[7] = 32760000001;
+    let full = lent(2147483647, 10, 0);
+    fed(b"8 before 13", full, p, &mut first, &mut second, 65536, 10);
+    fed(b"13 before 14", full, p, &mut first, &mut second, 6, 10);
+    let s = lent(5, 10, 0);
+    fed(b"14 before 6", s, p, &mut first, &mut second, 6, 10);
+    put_tables(&first, &second);
+}
+
+fn refusals() {
+    io::write_all(1, b"refusals\n");
+    short_first();
+    short_second();
+    unsound();
+    state_and_tables_first();
+    piece_then_cells();
+}
+
 fn main() {
     examples();
     fourth_clock();
     fourth_clock_kept();
     without_clocks();
     cut_examples();
+    refused_examples();
+    odd_tables();
+    odd_cells();
+    odd_states();
+    refusals();
 }
