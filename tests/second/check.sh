@@ -1,0 +1,224 @@
+#!/bin/sh
+# Builds the second scorer and its generator, checks them, and makes the cases.
+#
+#     check.sh BUILD          self-checks; leaves BUILD/cases.txt and BUILD/answers.txt
+#     check.sh BUILD WATCH    also runs the program WATCH in a folder for each case and compares
+#
+# The last line is `N passed, M failed`; the exit status is 0 only if nothing failed.
+set -u
+here=$(cd "$(dirname "$0")" && pwd)
+[ $# -ge 1 ] || { echo "usage: check.sh BUILD [WATCH]"; exit 2; }
+mkdir -p "$1" && build=$(cd "$1" && pwd) || exit 2
+watch=${2:-}
+rustc --edition 2024 -O -o "$build/scorer" "$here/scorer.rs" || exit 2
+rustc --edition 2024 -O -o "$build/generate" "$here/generate.rs" || exit 2
+
+passed=0
+failed=0
+pass() { passed=$((passed + 1)); }
+fail() { failed=$((failed + 1)); echo "FAILED: $1"; }
+
+# expect NAME PATTERN RECORD ANSWER: the answer to two texts given here. The word `missing` leaves the
+# file out. Every text but that gets a last line feed, and the answer too.
+folder=$build/self
+expect() {
+    rm -rf "$folder" && mkdir "$folder"
+    [ "$2" = missing ] || printf '%s\n' "$2" >"$folder/pattern.txt"
+    [ "$3" = missing ] || printf '%s\n' "$3" >"$folder/record.txt"
+    got=$("$build/scorer" "$folder")
+    if [ "$got" = "$4" ]; then pass; else fail "$1: $got"; fi
+}
+# swap TEXT FROM TO: the text with one part changed.
+swap() { printf '%s' "$1" | sed "s/$2/$3/"; }
+repeat() { i=0; while [ $i -lt "$1" ]; do printf '%s' "$2"; i=$((i + 1)); done; }
+
+margin='(pattern margin 1 1 1 4)
+(place start (< 0 15))
+(place plain (> 0 5))
+(place end)
+(edge 0 1 (< 0 3) (reset 0))
+(edge 1 2 (<= 0 2))'
+sum=$(swap "$margin" margin sum)
+record='(piece 2 10)
+(piece 2 40)'
+single='(piece 1 10)
+(piece 1 10)
+(piece 1 40)
+(piece 1 40)'
+none='end begin score
+best none'
+margin_answer='end begin score
+2 0 5
+3 1 5
+4 1 5
+best 2 0 5'
+sum_answer='end begin score
+2 0 10
+3 1 40
+4 2 10
+best 2 0 10'
+
+# The paper's example under both weightings (end 1 has no run), and with its pieces cut.
+expect "example, margin" "$margin" "$record" "$margin_answer"
+expect "example, sum" "$sum" "$record" "$sum_answer"
+expect "example, margin, cut" "$margin" "$single" "$margin_answer"
+expect "example, sum, cut" "$sum" "$single" "$sum_answer"
+
+# "Sum, begin 0, edges 0 then 1, stays 2 and 1: 40": the best of length 3 with end 3 (stays 1 and 2: 45).
+expect "sum, length 3" "$(swap "$sum" '1 4)' '3 3)')" "$record" 'end begin score
+3 0 40
+4 1 15
+best 4 1 15'
+# "Same edges, stays 3 and 1: refusal 10": as a run it would have 15. Stays 2 and 2 have 40.
+expect "sum, length 4" "$(swap "$sum" '1 4)' '4 4)')" "$record" 'end begin score
+4 0 40
+best 4 0 40'
+
+# The other edge values, as far as watch shows them.
+expect "bound 1000000" "$(swap "$margin" 15 1000000)" '(piece 2 1000000)' 'end begin score
+2 0 0
+best 2 0 0'
+expect "bound 1000001" "$(swap "$margin" 15 1000001)" "$record" 'refused 3'
+expect "bound -1000000" "$(swap "$margin" 15 -1000000)" '(piece 2 1000000)' 'end begin score
+2 0 -2000000
+best 2 0 -2000000'
+expect "bound -1000001" "$(swap "$margin" 15 -1000001)" "$record" 'refused 3'
+expect "bound -0" "$(swap "$margin" 15 -0)" "$record" 'refused 2'
+expect "window 4 3" "$(swap "$margin" '1 4)' '4 3)')" "$record" 'refused 3'
+expect "16 places" "(pattern margin 1 0 1 4)$(repeat 16 '
+(place both)')" "$record" "$none"
+expect "17 places" "(pattern margin 1 0 1 4)$(repeat 17 '
+(place both)')" "$record" 'refused 4'
+expect "32 edges" "(pattern margin 1 0 2 2)
+(place both)$(repeat 32 '
+(edge 0 0)')" '(piece 2 7)' 'end begin score
+2 0 2000001
+best 2 0 2000001'
+expect "33 edges" "(pattern margin 1 0 2 2)
+(place both)$(repeat 33 '
+(edge 0 0)')" '(piece 2 7)' 'refused 4'
+# The sizes count the last line feed.
+expect "8192 bytes" "(pattern margin 1 0 1 4)
+$(repeat 8166 x)" "$record" 'refused 2'
+expect "8192 bytes, fault 3" "(pattern margin 1 0 1 4$(repeat 8167 0))" "$record" 'refused 3'
+expect "8193 bytes" "(pattern margin 1 0 1 4$(repeat 8168 0))" "$record" 'refused 1'
+expect "a guard never met" "$(swap "$margin" '(<= 0 2)' '(<= 0 0)')" "$record" "$none"
+expect "the word Start" "$(swap "$margin" start Start)" "$record" 'refused 2'
+
+# Cells: (high + 1) x 2 x 2 places, no clocks: 2,048 with high 511.
+cells='(pattern margin 1 0 1 511)
+(place start (> 0 2))
+(place end)
+(edge 0 1)'
+expect "2048 cells" "$cells" '(piece 1 5)' 'end begin score
+1 0 3
+best 1 0 3'
+expect "2052 cells" "$(swap "$cells" 511 512)" '(piece 1 5)' 'refused 11'
+expect "2052 cells, no record" "$(swap "$cells" 511 512)" missing 'refused 11'
+expect "8 before 11" "$(swap "$cells" 511 512)" '(piece 0 5)' 'refused 8'
+
+# The traps.
+expect "long piece once" '(pattern sum 1 0 3 3)
+(place start (> 0 0))
+(place end)
+(edge 0 1)' '(piece 3 7)' 'end begin score
+3 0 7
+best 3 0 7'
+expect "cut piece once" '(pattern sum 1 0 3 3)
+(place start (> 0 0))
+(place end)
+(edge 0 1)' '(piece 1 7)
+(piece 2 7)' 'end begin score
+3 0 7
+best 3 0 7'
+expect "once for each stay" '(pattern sum 1 0 3 3)
+(place start (> 0 0))
+(place plain (> 0 0))
+(place end)
+(edge 0 1)
+(edge 1 2)' '(piece 3 7)' 'end begin score
+3 0 14
+best 3 0 14'
+expect "the guard (> 0 3) fires" '(pattern margin 1 1 1 5)
+(place start)
+(place end)
+(edge 0 1 (> 0 3))' '(piece 5 0)' 'end begin score
+4 0 2000001
+5 1 2000001
+best 4 0 2000001'
+expect "no two edges without a stay" '(pattern margin 1 0 1 4)
+(place start)
+(place plain)
+(place end)
+(edge 0 1)
+(edge 1 2)' '(piece 1 0)' "$none"
+expect "guards before resets" '(pattern margin 1 1 1 1)
+(place start)
+(place end)
+(edge 0 1 (>= 0 1) (reset 0))' '(piece 1 0)' 'end begin score
+1 0 2000001
+best 1 0 2000001'
+expect "the end place's tests are silent" '(pattern margin 1 0 1 1)
+(place start (< 0 3))
+(place end (> 0 100))
+(edge 0 1)' '(piece 1 0)' 'end begin score
+1 0 3
+best 1 0 3'
+expect "a run goes on through an end place" '(pattern sum 1 0 2 2)
+(place start (< 0 9))
+(place end (< 0 -3))
+(edge 0 1)
+(edge 1 1)' '(piece 2 0)' 'end begin score
+2 0 6
+best 2 0 6'
+expect "joining looks at every channel" '(pattern sum 2 0 2 2)
+(place start (> 0 0))
+(place end)
+(edge 0 1)' '(piece 1 7 1)
+(piece 1 7 2)' 'end begin score
+2 0 14
+best 2 0 14'
+
+# Patterns that never have a run, and files that are not there.
+expect "no start" "$(swap "$margin" start plain)" "$record" "$none"
+expect "no end" "$(swap "$margin" 'place end' 'place plain')" "$record" "$none"
+expect "no edge" '(pattern sum 1 0 1 4)
+(place both)' "$record" "$none"
+expect "no record" "$margin" missing "$none"
+expect "no pattern" missing "$record" 'refused 2'
+expect "neither" missing missing 'refused 2'
+expect "the pattern first" "$(swap "$margin" start Start)" '(piece 0 10)' 'refused 2'
+expect "2 before 8" "$margin" '(piece 0 10)
+(piece 2 -0)' 'refused 2'
+expect "wrong count of values" "$margin" '(piece 2 10 10)' 'refused 8'
+
+# The cases: the same each time, every kind occurs, and all is as the generator knows it.
+cases=$build/cases.txt
+answers=$build/answers.txt
+if "$build/generate" "$cases" >"$build/kinds.txt"; then pass; else fail "the generator"; fi
+"$build/generate" "$build/again.txt" >/dev/null
+if cmp -s "$cases" "$build/again.txt"; then pass; else fail "the generator gives other cases each time"; fi
+rm -f "$build/again.txt"
+if "$build/scorer" --many "$cases" >"$answers"; then pass; else fail "the scorer on the cases"; fi
+count=$(tail -n 1 "$build/kinds.txt" | awk '{ print $1 }')
+if [ "$count" -ge 3000 ] && [ "$(grep -c '^===' "$answers")" = "$count" ]; then pass; else fail "$count cases"; fi
+if "$build/scorer" --many "$cases" --stats >"$build/stats.txt"; then pass; else fail "see stats.txt"; fi
+cat "$build/stats.txt"
+
+# The comparison with the real program.
+if [ -n "$watch" ]; then
+    watch=$(cd "$(dirname "$watch")" && pwd)/$(basename "$watch")
+    rm -rf "$build/folders"
+    "$build/generate" --dirs "$cases" "$build/folders" || exit 2
+    "$build/scorer" --many "$cases" --expected "$build/folders" || exit 2
+    number=0
+    while [ $number -lt "$count" ]; do
+        number=$((number + 1))
+        cd "$build/folders/$number" || exit 2
+        "$watch" >got.txt 2>/dev/null
+        if cmp -s expected.txt got.txt; then pass; else fail "case $number: watch answers otherwise"; fi
+    done
+fi
+
+echo "$passed passed, $failed failed"
+[ $failed -eq 0 ]

@@ -1,0 +1,1157 @@
+//! Makes the cases on which `watch` and the second scorer are compared.
+//!
+//!     generate CASES [SEED]       writes the file of cases (the same bytes each time for the same seed)
+//!     generate --dirs CASES OUT   writes OUT/NUMBER/pattern.txt and OUT/NUMBER/record.txt for each case
+//!
+//! A case in the file is a line `=== NUMBER P R EXPECTED KIND`, then P bytes of pattern text, R bytes of
+//! record text, and a line feed. EXPECTED is `-`, or what is known of the answer from the way the case
+//! was made: `ok` for no refusal, or the number of the refusal.
+
+use std::collections::BTreeMap;
+use std::process::exit;
+
+// ------------------------------------------------------------------------------------ random numbers
+
+/// splitmix64
+struct Random(u64);
+
+impl Random {
+    fn next(&mut self) -> u64 {
+        self.0 = self.0.wrapping_add(0x9e37_79b9_7f4a_7c15);
+        let mut z = self.0;
+        z = (z ^ (z >> 30)).wrapping_mul(0xbf58_476d_1ce4_e5b9);
+        z = (z ^ (z >> 27)).wrapping_mul(0x94d0_49bb_1331_11eb);
+        z ^ (z >> 31)
+    }
+
+    fn below(&mut self, count: usize) -> usize {
+        (self.next() % count as u64) as usize
+    }
+
+    fn from_to(&mut self, least: usize, most: usize) -> usize {
+        least + self.below(most - least + 1)
+    }
+
+    fn percent(&mut self, chance: usize) -> bool {
+        self.below(100) < chance
+    }
+
+    fn pick<'a, T: ?Sized>(&mut self, choices: &[&'a T]) -> &'a T {
+        choices[self.below(choices.len())]
+    }
+}
+
+// ------------------------------------------------------------------------------ patterns and records
+
+const SIGNS: [&str; 4] = ["<", "<=", ">", ">="];
+
+#[derive(Clone)]
+struct Pattern {
+    weighting: &'static str,
+    channels: usize,
+    clocks: usize,
+    low: usize,
+    high: usize,
+    /// Kind and tests, as text.
+    places: Vec<(&'static str, Vec<String>)>,
+    edges: Vec<Edge>,
+}
+
+#[derive(Clone)]
+struct Edge {
+    from: usize,
+    to: usize,
+    guards: Vec<(&'static str, usize, usize)>,
+    resets: Vec<usize>,
+}
+
+type Record = Vec<(u64, Vec<i64>)>;
+
+impl Edge {
+    fn line(&self) -> String {
+        let mut line = format!("(edge {} {}", self.from, self.to);
+        for (sign, clock, bound) in &self.guards {
+            line += &format!(" ({sign} {clock} {bound})");
+        }
+        if !self.resets.is_empty() {
+            let clocks: Vec<String> = self.resets.iter().map(usize::to_string).collect();
+            line += &format!(" (reset {})", clocks.join(" "));
+        }
+        line + ")"
+    }
+}
+
+impl Pattern {
+    fn header(&self) -> String {
+        let Pattern { weighting, channels, clocks, low, high, .. } = self;
+        format!("(pattern {weighting} {channels} {clocks} {low} {high})")
+    }
+
+    fn lines(&self) -> Vec<String> {
+        let mut lines = vec![self.header()];
+        for (kind, tests) in &self.places {
+            lines.push(format!("(place {kind}{})", tests.iter().map(|test| format!(" {test}")).collect::<String>()));
+        }
+        lines.extend(self.edges.iter().map(Edge::line));
+        lines
+    }
+
+    fn text(&self) -> String {
+        text(&self.lines())
+    }
+
+    /// (high + 1) × 2 × places × the product over clocks of (2 + the largest guard bound, or 0)
+    fn cells(&self) -> usize {
+        let bound = |clock| {
+            let guards = self.edges.iter().flat_map(|edge| &edge.guards).filter(|guard| guard.1 == clock);
+            guards.map(|guard| guard.2).max().unwrap_or(0)
+        };
+        let product: usize = (0..self.clocks).map(|clock| bound(clock) + 2).product();
+        (self.high + 1) * 2 * self.places.len() * product
+    }
+
+    /// How many steps all runs over so many ticks would take together if every guard held: what a listing
+    /// of every run costs at most.
+    fn cost(&self, ticks: usize) -> f64 {
+        let longest = ticks.min(self.high);
+        let mut cost = vec![vec![0.0; self.places.len()]; longest + 1];
+        for left in 1..=longest {
+            for edge in &self.edges {
+                let steps: f64 = (1..=left).map(|stay| 1.0 + cost[left - stay][edge.to]).sum();
+                cost[left][edge.from] += steps;
+            }
+        }
+        let starts = (0..self.places.len()).filter(|place| ["start", "both"].contains(&self.places[*place].0));
+        starts.map(|place| (0..ticks).map(|begin| cost[longest.min(ticks - begin)][place]).sum::<f64>()).sum()
+    }
+}
+
+fn text(lines: &[String]) -> String {
+    lines.iter().map(|line| format!("{line}\n")).collect()
+}
+
+fn record_lines(record: &Record) -> Vec<String> {
+    let values = |values: &Vec<i64>| values.iter().map(|value| format!(" {value}")).collect::<String>();
+    record.iter().map(|piece| format!("(piece {}{})", piece.0, values(&piece.1))).collect()
+}
+
+fn ticks(record: &Record) -> usize {
+    record.iter().map(|piece| piece.0 as usize).sum()
+}
+
+/// Where values and bounds are drawn from: few of them, so that neighbouring pieces are often equal.
+struct Pool {
+    values: Vec<i64>,
+    bounds: Vec<i64>,
+}
+
+fn pool(random: &mut Random) -> Pool {
+    let far = [-1_000_000, 1_000_000, 0, 999_999, -999_999];
+    let mut draw = |far_too: bool| -> i64 {
+        if far_too && random.percent(50) { far[random.below(far.len())] } else { random.below(13) as i64 - 6 }
+    };
+    let far_values = draw(false) >= 5;
+    let far_bounds = draw(false) >= 5;
+    let count = 2 + (draw(false) >= 2) as usize;
+    let mut pool = Pool {
+        values: (0..count).map(|_| draw(far_values)).collect(),
+        bounds: (0..3).map(|_| draw(far_bounds)).collect(),
+    };
+    if random.percent(30) {
+        pool.values[0] = 0;
+    }
+    pool
+}
+
+fn test(random: &mut Random, channels: usize, pool: &Pool) -> String {
+    format!("({} {} {})", random.pick(&SIGNS), random.below(channels), pool.bounds[random.below(3)])
+}
+
+/// How many of the channels a pattern's tests may name: sometimes not all.
+fn tested_channels(random: &mut Random, channels: usize) -> usize {
+    if random.percent(45) { random.from_to(1, channels) } else { channels }
+}
+
+fn few(random: &mut Random, weights: [usize; 5]) -> usize {
+    let mut left = random.below(weights.iter().sum());
+    weights.iter().position(|weight| if left < *weight { true } else { left -= weight; false }).unwrap()
+}
+
+fn edge(random: &mut Random, places: usize, clocks: usize, most_bound: usize) -> Edge {
+    let guards = if clocks == 0 { 0 } else { few(random, [40, 30, 16, 8, 6]) };
+    // Most guards hold at some time: `<` with 0 and `<=` with 0 never do.
+    let guard = |random: &mut Random| {
+        let sign = random.pick(&SIGNS);
+        let bound = random.from_to(0, most_bound);
+        (sign, random.below(clocks), if sign.starts_with('<') && random.percent(85) { bound.max(2) } else { bound })
+    };
+    Edge {
+        from: random.below(places),
+        to: random.below(places),
+        guards: (0..guards).map(|_| guard(random)).collect(),
+        resets: (0..clocks).filter(|_| random.percent(35)).collect(),
+    }
+}
+
+fn record(random: &mut Random, channels: usize, pool: &Pool, most_pieces: usize, most_duration: usize) -> Record {
+    let pieces = random.from_to(if most_pieces > 2 { 2 } else { 0 }, most_pieces);
+    let mut record: Record = Vec::new();
+    for _ in 0..pieces {
+        let mut values: Vec<i64> = (0..channels).map(|_| pool.values[random.below(pool.values.len())]).collect();
+        if let Some((_, last)) = record.last() {
+            match random.below(6) {
+                0 | 1 => values = last.clone(),
+                2 => values[..channels - 1].copy_from_slice(&last[..channels - 1]),
+                3 => values[1..].copy_from_slice(&last[1..]),
+                _ => {}
+            }
+        }
+        record.push((random.from_to(1, most_duration) as u64, values));
+    }
+    record
+}
+
+/// The same observations, cut into other pieces.
+fn cut_anew(random: &mut Random, record: &Record) -> Record {
+    let mut cut: Record = Vec::new();
+    for (duration, values) in record {
+        for _ in 0..*duration {
+            match cut.last_mut() {
+                Some(last) if last.1 == *values && random.percent(50) => last.0 += 1,
+                _ => cut.push((1, values.clone())),
+            }
+        }
+    }
+    cut
+}
+
+/// The most steps that the listing of a case's runs may take.
+const COST: f64 = 6_000.0;
+
+/// A small pattern of any shape, and a record for it. Both are drawn again until the listing is cheap.
+fn small(random: &mut Random, over: bool) -> (Pattern, Record) {
+    loop {
+        let pool = pool(random);
+        let channels = random.from_to(1, 3);
+        let tested = tested_channels(random, channels);
+        let clocks = few(random, [20, 30, 25, 13, 12]);
+        let count = if random.percent(6) { random.from_to(5, 16) } else { random.from_to(1, 4) };
+        let mut places: Vec<(&'static str, Vec<String>)> = Vec::new();
+        for _ in 0..count {
+            let kind = random.pick(&["start", "start", "plain", "end", "end", "both"]);
+            let tests = few(random, [20, 40, 20, 10, 10]);
+            places.push((kind, (0..tests).map(|_| test(random, tested, &pool)).collect()));
+        }
+        // Most patterns get a start place and an end place.
+        if random.percent(93) && !places.iter().any(|place| ["start", "both"].contains(&place.0)) {
+            places[0].0 = "start";
+        }
+        if random.percent(93) && !places.iter().any(|place| ["end", "both"].contains(&place.0)) {
+            let last = count - 1;
+            places[last].0 = if places[last].0 == "start" { "both" } else { "end" };
+        }
+        let most_bound = if clocks > 2 { 2 } else { 4 };
+        let number = match random.below(20) {
+            0 => 0,
+            1 => random.from_to(7, 12),
+            _ => random.from_to(count.min(2), 6),
+        };
+        let mut edges: Vec<Edge> = (0..number).map(|_| edge(random, count, clocks, most_bound)).collect();
+        if number > 1 && random.percent(8) {
+            edges[number - 1] = edges[0].clone();
+        }
+        if random.percent(70) {
+            // A way from the first place through all others, so that long runs are frequent.
+            for place in 0..(count - 1).min(number) {
+                (edges[place].from, edges[place].to) = (place, place + 1);
+            }
+        }
+        let high = match random.below(10) {
+            0 => random.from_to(10, 40),
+            _ => random.from_to(1, 8),
+        };
+        let low = if random.percent(45) { 1 } else { random.from_to(1, high.min(5)) };
+        let weighting = if random.percent(50) { "margin" } else { "sum" };
+        let pattern = Pattern { weighting, channels, clocks, low, high, places, edges };
+        let pieces = if random.percent(4) { 0 } else { 6 };
+        let record = record(random, channels, &pool, pieces, 4);
+        let fits = pattern.cells() <= 2_048;
+        if fits != over && pattern.cost(ticks(&record)) <= COST {
+            return (pattern, record);
+        }
+    }
+}
+
+/// A chain of places with no way back: longer windows and longer records.
+fn chain(random: &mut Random) -> (Pattern, Record) {
+    loop {
+        let pool = pool(random);
+        let channels = random.from_to(1, 3);
+        let clocks = few(random, [40, 40, 20, 0, 0]);
+        let count = random.from_to(2, 3);
+        let mut places: Vec<(&'static str, Vec<String>)> = Vec::new();
+        for place in 0..count {
+            let kind = if place == 0 { "start" } else if place == count - 1 { "end" } else { "plain" };
+            let tests = few(random, [10, 50, 30, 5, 5]);
+            places.push((kind, (0..tests).map(|_| test(random, channels, &pool)).collect()));
+        }
+        let mut edges = Vec::new();
+        for place in 0..count - 1 {
+            let bound = random.from_to(4, 12);
+            edges.push(Edge { from: place, to: place + 1, ..edge(random, count, clocks, bound) });
+        }
+        let high = random.from_to(8, 80);
+        let low = random.from_to(1, high.min(12));
+        let weighting = if random.percent(50) { "margin" } else { "sum" };
+        let pattern = Pattern { weighting, channels, clocks, low, high, places, edges };
+        let record = record(random, channels, &pool, 12, 9);
+        if pattern.cells() <= 2_048 && pattern.cost(ticks(&record)) <= 4.0 * COST {
+            return (pattern, record);
+        }
+    }
+}
+
+/// Few places and many guards and resets: which runs there are hangs on the clocks.
+fn timed(random: &mut Random) -> (Pattern, Record) {
+    loop {
+        let pool = pool(random);
+        let channels = random.from_to(1, 2);
+        let clocks = random.from_to(1, 4);
+        let most_bound = 5 - clocks;
+        let count = random.from_to(2, 3);
+        let mut places: Vec<(&'static str, Vec<String>)> = Vec::new();
+        for place in 0..count {
+            let kind = if place == 0 { "start" } else if place == count - 1 { "end" } else { "plain" };
+            let tests = few(random, [15, 60, 25, 0, 0]);
+            places.push((kind, (0..tests).map(|_| test(random, channels, &pool)).collect()));
+        }
+        let mut edges = Vec::new();
+        for at in 0..random.from_to(count, 5) {
+            let mut edge = edge(random, count, clocks, most_bound);
+            if at < count - 1 {
+                (edge.from, edge.to) = (at, at + 1);
+            }
+            if edge.guards.is_empty() {
+                edge.guards.push((random.pick(&SIGNS), random.below(clocks), random.from_to(1, most_bound)));
+            }
+            edge.resets = (0..clocks).filter(|_| random.percent(55)).collect();
+            edges.push(edge);
+        }
+        let high = random.from_to(3, 12);
+        let low = if random.percent(50) { 1 } else { random.from_to(1, 4.min(high)) };
+        let pattern = Pattern { weighting: "sum", channels, clocks, low, high, places, edges };
+        let record = record(random, channels, &pool, 5, 4);
+        if pattern.cells() <= 2_048 && pattern.cost(ticks(&record)) <= COST {
+            return (pattern, record);
+        }
+    }
+}
+
+/// Many places, edges and channels.
+fn wide(random: &mut Random) -> (Pattern, Record) {
+    loop {
+        let pool = pool(random);
+        let channels = random.from_to(3, 8);
+        let clocks = few(random, [60, 30, 10, 0, 0]);
+        let count = random.from_to(6, 16);
+        let mut places: Vec<(&'static str, Vec<String>)> = Vec::new();
+        for _ in 0..count {
+            let kind = random.pick(&["start", "plain", "plain", "end"]);
+            let tests = few(random, [10, 30, 30, 15, 15]);
+            places.push((kind, (0..tests).map(|_| test(random, channels, &pool)).collect()));
+        }
+        let number = random.from_to(14, 32);
+        let edges: Vec<Edge> = (0..number).map(|_| edge(random, count, clocks, 4)).collect();
+        let high = random.from_to(2, 6);
+        let low = random.from_to(1, high.min(3));
+        let pattern = Pattern { weighting: "sum", channels, clocks, low, high, places, edges };
+        let record = record(random, channels, &pool, 6, 3);
+        if pattern.cells() <= 2_048 && pattern.cost(ticks(&record)) <= 3.0 * COST {
+            return (pattern, record);
+        }
+    }
+}
+
+/// Loops through few places: many runs to list.
+fn costly(random: &mut Random) -> (Pattern, Record) {
+    loop {
+        let (mut pattern, mut other) = small(random, false);
+        let pool = pool(random);
+        other.extend(record(random, pattern.channels, &pool, 5, 4));
+        pattern.high = random.from_to(6, 12);
+        let cost = pattern.cost(ticks(&other));
+        if pattern.cells() <= 2_048 && cost > 4.0 * COST && cost <= 50.0 * COST {
+            return (pattern, other);
+        }
+    }
+}
+
+/// A small pattern and a short record whose listing stays cheap even after a few bytes have changed.
+fn tame(random: &mut Random) -> (Pattern, Record) {
+    loop {
+        let (mut pattern, mut record) = small(random, false);
+        pattern.high = pattern.high.min(5);
+        pattern.low = pattern.low.min(pattern.high);
+        record.truncate(4);
+        record.iter_mut().for_each(|piece| piece.0 = piece.0.min(2));
+        if !record.is_empty() && pattern.edges.len() <= 5 && pattern.places.len() <= 6 {
+            return (pattern, record);
+        }
+    }
+}
+
+// -------------------------------------------------------------------------------------------- damage
+
+const FORTY: &str = "1234567890123456789012345678901234567890";
+const TWENTY: &str = "18446744073709551617"; // 2 to the 64th, and 1
+const TEN: &str = "4294967297"; // 2 to the 32nd, and 1
+
+/// Words and signs, and what stands in their place where they are none.
+const WRONG_WORDS: [(&str, &str); 24] = [
+    ("pattern", "Pattern"), ("margin", "Margin"), ("sum", "sums"), ("place", "Place"), ("place", "places"),
+    ("place", "edge"), ("edge", "Edge"), ("edge", "place"), ("start", "Start"), ("plain", "plane"), ("end", "END"),
+    ("both", "Both"), ("both", "start end"), ("reset", "resets"), ("reset", "Reset"), ("piece", "Piece"),
+    ("piece", "place"), ("(<", "(=<"), ("(<", "(<>"), ("(>", "(=>"), ("(>", "(>>"), ("(<", "(=="), ("(<", "(≤"),
+    ("(>", "(!="),
+];
+
+/// Breaks the form of a line for certain.
+fn break_form(random: &mut Random, line: &str) -> String {
+    let words: Vec<&str> = line.split(' ').collect();
+    loop {
+        let broken = match random.below(17) {
+            0 => format!("{line} "),
+            1 => format!(" {line}"),
+            2 => format!("{line}\r"),
+            3 => line.replacen(' ', "  ", 1),
+            4 => line.replacen(' ', "\t", 1),
+            5 => line[..line.len() - 1].to_string(),
+            6 => format!("{line})"),
+            7 => line[1..].to_string(),
+            8 => format!("({line})"),
+            9 => line.replacen(") (", ")(", 1),
+            10 => line.replacen(" (", " ( ", 1),
+            11 => line.replacen("))", ") )", 1),
+            12 => String::new(),
+            13 => {
+                // A number's form: a leading zero, a minus before zero, a plus, a letter, a point, nothing.
+                let numbers: Vec<usize> = (0..words.len())
+                    .filter(|at| words[*at].trim_end_matches(')').bytes().all(|byte| byte.is_ascii_digit()))
+                    .collect();
+                if numbers.is_empty() {
+                    continue;
+                }
+                let at = numbers[random.below(numbers.len())];
+                let digits = words[at].trim_end_matches(')');
+                let wrong = match random.below(8) {
+                    0 => format!("0{digits}"),
+                    1 => "-0".to_string(),
+                    2 => format!("+{digits}"),
+                    3 => format!("{digits}a"),
+                    4 => format!("{digits}.0"),
+                    5 => "00".to_string(),
+                    6 => "-".to_string(),
+                    _ => String::new(),
+                };
+                let mut words: Vec<String> = words.iter().map(|word| word.to_string()).collect();
+                words[at] = words[at].replacen(digits, &wrong, 1);
+                words.join(" ")
+            }
+            14 => {
+                // A word or a sign that is none.
+                let (right, wrong) = WRONG_WORDS[random.below(WRONG_WORDS.len())];
+                line.replacen(right, wrong, 1)
+            }
+            15 => format!("{line}{line}"),
+            _ => format!("{line} ; {line}"),
+        };
+        if broken != line {
+            return broken;
+        }
+    }
+}
+
+/// A place or an edge line with a chosen set of causes (4: too many tests or guards; 3: a bound out of
+/// range; 5: no such index, or resets that do not rise; 2: broken form), and the refusal due.
+fn faulty_line(random: &mut Random, pattern: &Pattern, place: bool) -> (String, &'static str) {
+    let [mut two, mut four, mut three, mut five] = [0; 4].map(|_| random.percent(22));
+    match random.below(4) {
+        0 => four = true,
+        1 => three = true,
+        2 => five = true,
+        _ => two = true,
+    }
+    let count = if four { random.from_to(5, 9) } else { random.from_to(three as usize, 4) };
+    let long = random.pick(&[FORTY, TWENTY, TEN]).to_string();
+    let mut parts: Vec<[String; 3]> = Vec::new();
+    let indices = if place { pattern.channels } else { pattern.clocks };
+    for _ in 0..if !place && indices == 0 && !four && !(three && five) { 0 } else { count } {
+        let index = if indices == 0 { 0 } else { random.below(indices) };
+        let bound = if place { random.below(2_001) as i64 - 1_000 } else { random.below(1_001) as i64 };
+        parts.push([random.pick(&SIGNS).to_string(), index.to_string(), bound.to_string()]);
+    }
+    if !parts.is_empty() && !place && indices == 0 {
+        five = true; // every guard of a pattern without clocks is one
+    }
+    if three && parts.is_empty() {
+        // No guard can stand here without cause for 5 also.
+        three = false;
+        five |= !two && !four;
+    }
+    if three {
+        let at = random.below(parts.len());
+        let wrong = match (place, random.below(4)) {
+            (true, 0) => "1000001".to_string(),
+            (true, 1) => "-1000001".to_string(),
+            (true, 2) => format!("-{long}"),
+            (false, 0) => "1001".to_string(),
+            _ => long.clone(),
+        };
+        parts[at][2] = wrong;
+    }
+    let mut ends = [random.below(pattern.places.len()).to_string(), random.below(pattern.places.len()).to_string()];
+    let mut resets: Vec<String> = (0..pattern.clocks).filter(|_| random.percent(40)).map(|at| at.to_string()).collect();
+    if five {
+        let beyond = |random: &mut Random, count: usize| match random.below(3) {
+            0 => long.clone(),
+            1 => (count + 1).to_string(),
+            _ => count.to_string(),
+        };
+        match random.below(if place { 1 } else { 5 }) {
+            0 | 1 if !parts.is_empty() => {
+                let at = random.below(parts.len());
+                parts[at][1] = beyond(random, indices);
+            }
+            2 => resets.push(beyond(random, indices)),
+            3 if pattern.clocks > 0 => {
+                let clock = random.below(pattern.clocks);
+                resets = vec![clock.to_string(), random.from_to(0, clock).to_string()];
+            }
+            _ if !place => {
+                let at = random.below(2);
+                ends[at] = beyond(random, pattern.places.len());
+            }
+            _ => parts.push(["<".to_string(), beyond(random, indices), "0".to_string()]),
+        }
+        four |= parts.len() > 4;
+    }
+    let kind = random.pick(&["start", "plain", "end", "both"]);
+    let mut line = if place { format!("(place {kind}") } else { format!("(edge {} {}", ends[0], ends[1]) };
+    for [sign, index, bound] in &parts {
+        line += &format!(" ({sign} {index} {bound})");
+    }
+    if !place && !resets.is_empty() {
+        line += &format!(" (reset {})", resets.join(" "));
+    }
+    line += ")";
+    if two {
+        line = match random.below(if place { 1 } else { 5 }) {
+            1 => line.replacen(')', " (reset)", 1).replacen(" (reset)", " (reset) )", 1),
+            2 => format!("{} (reset))", &line[..line.len() - 1]),
+            3 => format!("{} (reset 0) (< 0 3))", &line[..line.len() - 1]),
+            4 => format!("{} (< 0 -3))", &line[..line.len() - 1]),
+            _ => break_form(random, &line),
+        };
+    }
+    let due = match (two, four, three, five) {
+        (true, ..) => "2",
+        (_, true, ..) => "4",
+        (_, _, true, _) => "3",
+        _ => "5",
+    };
+    (line, due)
+}
+
+/// A header with a fault, and the refusal due.
+fn faulty_header(random: &mut Random, pattern: &Pattern) -> (String, &'static str) {
+    let mut numbers = [pattern.channels, pattern.clocks, pattern.low, pattern.high].map(|number| number.to_string());
+    let (at, wrong) = match random.below(10) {
+        0 => (0, "0".to_string()),
+        1 => (0, "9".to_string()),
+        2 => (1, "5".to_string()),
+        3 => (2, "0".to_string()),
+        4 => (2, (pattern.high + 1).to_string()),
+        5 => (2, "4096".to_string()),
+        6 => (3, "4096".to_string()),
+        7 => (3, (pattern.low - 1).to_string()),
+        _ => (random.below(4), random.pick(&[FORTY, TWENTY, TEN]).to_string()),
+    };
+    numbers[at] = wrong;
+    let line = format!("(pattern {} {})", pattern.weighting, numbers.join(" "));
+    match random.below(6) {
+        0 => (break_form(random, &line), "2"),
+        1 => (line.replacen(' ', " -", 3).replacen(" -", " ", 2), "2"),
+        2 => (format!("{} 1)", &line[..line.len() - 1]), "2"),
+        _ => (line, "3"),
+    }
+}
+
+/// Record lines with cause for 2, for 8, or for both, and the refusal due.
+fn faulty_record(random: &mut Random, record: &Record, channels: usize) -> (Vec<String>, &'static str) {
+    let mut lines = record_lines(record);
+    let (two, eight) = match random.below(5) {
+        0 | 1 => (true, false),
+        2 | 3 => (false, true),
+        _ => (true, true),
+    };
+    let values = |values: &[&str]| values.iter().map(|value| format!(" {value}")).collect::<String>();
+    if eight {
+        let long = random.pick(&[FORTY, TWENTY, TEN]);
+        let good = vec!["7"; channels];
+        let mut bad = good.clone();
+        let far = format!("-{long}");
+        bad[channels - 1] = match random.below(4) {
+            0 => "1000001",
+            1 => "-1000001",
+            2 => long,
+            _ => &far,
+        };
+        let line = match random.below(8) {
+            0 => format!("(piece 0{})", values(&good)),
+            1 => format!("(piece 2147483648{})", values(&good)),
+            2 => format!("(piece 2147483647{})", values(&good)), // beside another piece: too long in all
+            3 => format!("(piece {long}{})", values(&good)),
+            4 => format!("(piece 1{} 7)", values(&good)),
+            5 if channels > 1 => format!("(piece 1{})", values(&good[1..])),
+            5 => format!("(piece 1{})", values(&["0"; 9])),
+            _ => format!("(piece 1{})", values(&bad)),
+        };
+        let at = random.below(lines.len() + 1);
+        lines.insert(at, line);
+    }
+    if two {
+        let at = random.below(lines.len());
+        lines[at] = match random.below(6) {
+            0 => "(piece 1)".to_string(),
+            1 => format!("(piece -1{})", values(&vec!["7"; channels])),
+            2 => format!("(piece 1{} (7))", values(&vec!["7"; channels])),
+            _ => break_form(random, &lines[at]),
+        };
+    }
+    (lines, if two { "2" } else { "8" })
+}
+
+/// One change of a text, blind to its meaning.
+fn change(random: &mut Random, text: &mut Vec<u8>) {
+    let alphabet = b"()()<=>-- 00123456789\n\n\r\tpaelcsu+\0\xff";
+    if text.is_empty() {
+        text.push(alphabet[random.below(alphabet.len())]);
+        return;
+    }
+    let at = random.below(text.len());
+    let lines: Vec<Vec<u8>> = text.split_inclusive(|byte| *byte == b'\n').map(<[u8]>::to_vec).collect();
+    let line = random.below(lines.len());
+    match random.below(10) {
+        0 | 1 | 2 => text[at] = alphabet[random.below(alphabet.len())],
+        3 | 4 => drop(text.remove(at)),
+        5 => text.insert(at, text[at]),
+        6 => text.insert(at, alphabet[random.below(alphabet.len())]),
+        7 => {
+            let mut lines = lines;
+            let other = random.below(lines.len());
+            lines.swap(line, other);
+            *text = lines.concat();
+        }
+        8 => {
+            let mut lines = lines;
+            lines.insert(line, lines[line].clone());
+            *text = lines.concat();
+        }
+        _ => {
+            let mut lines = lines;
+            lines.remove(line);
+            *text = lines.concat();
+        }
+    }
+}
+
+// --------------------------------------------------------------------------------------- the writing
+
+struct Cases {
+    bytes: Vec<u8>,
+    count: usize,
+    kinds: BTreeMap<String, usize>,
+}
+
+impl Cases {
+    fn add(&mut self, kind: &str, expected: &str, pattern: impl AsRef<[u8]>, record: impl AsRef<[u8]>) {
+        let (pattern, record) = (pattern.as_ref(), record.as_ref());
+        self.count += 1;
+        *self.kinds.entry(kind.to_string()).or_default() += 1;
+        let header = format!("=== {} {} {} {expected} {kind}\n", self.count, pattern.len(), record.len());
+        self.bytes.extend_from_slice(header.as_bytes());
+        self.bytes.extend_from_slice(pattern);
+        self.bytes.extend_from_slice(record);
+        self.bytes.push(b'\n');
+    }
+}
+
+fn random_cases(random: &mut Random, cases: &mut Cases) {
+    for _ in 0..700 {
+        let (mut pattern, record) = small(random, false);
+        let lines = text(&record_lines(&record));
+        for weighting in ["margin", "sum"] {
+            pattern.weighting = weighting;
+            cases.add("small", "ok", pattern.text(), &lines);
+        }
+        if !record.is_empty() && random.percent(40) {
+            let cut = cut_anew(random, &record);
+            cases.add("small-cut-anew", "ok", pattern.text(), text(&record_lines(&cut)));
+        }
+    }
+    type Maker = fn(&mut Random) -> (Pattern, Record);
+    let makers: [(&str, usize, Maker); 4] =
+        [("chain", 100, chain), ("timed", 250, timed), ("wide", 60, wide), ("costly", 60, costly)];
+    for (kind, count, maker) in makers {
+        for _ in 0..count {
+            let (mut pattern, record) = maker(random);
+            for weighting in ["margin", "sum"] {
+                pattern.weighting = weighting;
+                cases.add(kind, "ok", pattern.text(), text(&record_lines(&record)));
+            }
+        }
+    }
+    for _ in 0..150 {
+        let (pattern, record) = small(random, true);
+        cases.add("over-2048-cells", "11", pattern.text(), text(&record_lines(&record)));
+    }
+    for _ in 0..40 {
+        let (pattern, record) = small(random, true);
+        if !record.is_empty() {
+            let (lines, due) = faulty_record(random, &record, pattern.channels);
+            cases.add("over-2048-cells-and-faulty-record", due, pattern.text(), text(&lines));
+        }
+    }
+}
+
+fn faulty_cases(random: &mut Random, cases: &mut Cases) {
+    for _ in 0..100 {
+        let (pattern, record) = tame(random);
+        let (header, due) = faulty_header(random, &pattern);
+        let mut lines = pattern.lines();
+        lines[0] = header;
+        if random.percent(20) {
+            lines.truncate(1);
+        }
+        cases.add("faulty-header", due, text(&lines), text(&record_lines(&record)));
+    }
+    for _ in 0..500 {
+        let (pattern, record) = tame(random);
+        let places = pattern.places.len();
+        let mut lines = pattern.lines();
+        let mut record = text(&record_lines(&record));
+        if random.percent(10) {
+            record = "(piece)\n".to_string();
+        }
+        let (place, due_there) = faulty_line(random, &pattern, true);
+        let (edge, due_here) = faulty_line(random, &pattern, false);
+        // Faults on later lines do not count, so the edge may be faulty beside the place, and what comes
+        // behind the faulty line may be anything.
+        let which = random.below(5);
+        let mut decides = 0;
+        if which != 0 {
+            decides = random.from_to(1 + places, lines.len());
+            lines.insert(decides, edge);
+        }
+        if which <= 1 {
+            decides = random.from_to(1, 1 + places);
+            lines.insert(decides, place);
+        }
+        if random.percent(15) {
+            lines.push(random.pick(&["", "(place)", "(pattern sum 1 0 1 1)", "(edge 0)", "garbage"]).to_string());
+        }
+        let (kind, mut due) = if which <= 1 { ("faulty-place", due_there) } else { ("faulty-edge", due_here) };
+        let mut bytes = text(&lines);
+        if random.percent(15) && !bytes.ends_with("\n\n") {
+            // Without its line feed the last line is broken in form, be it faulty otherwise or not.
+            bytes.pop();
+            if decides == lines.len() - 1 {
+                due = "2";
+            }
+        }
+        cases.add(kind, due, bytes, record);
+    }
+    for _ in 0..220 {
+        let (pattern, record) = tame(random);
+        let (lines, due) = faulty_record(random, &record, pattern.channels);
+        cases.add("faulty-record", due, pattern.text(), text(&lines));
+    }
+    for _ in 0..40 {
+        let (pattern, record) = tame(random);
+        let record = text(&record_lines(&record));
+        cases.add("no-last-line-feed", "2", pattern.text().trim_end(), &record);
+        cases.add("no-last-line-feed", "2", pattern.text(), record.trim_end());
+        cases.add("carriage-returns", "2", pattern.text().replace('\n', "\r\n"), &record);
+        cases.add("carriage-returns", "2", pattern.text(), record.replace('\n', "\r\n"));
+    }
+    for turn in 0..500 {
+        let (pattern, record) = tame(random);
+        let mut pattern_text = pattern.text().into_bytes();
+        let mut record_text = text(&record_lines(&record)).into_bytes();
+        let changed = if turn % 2 == 0 { &mut pattern_text } else { &mut record_text };
+        for _ in 0..few(random, [0, 60, 25, 15, 0]) {
+            change(random, changed);
+        }
+        let kind = if turn % 2 == 0 { "changed-pattern" } else { "changed-record" };
+        cases.add(kind, "-", pattern_text, record_text);
+    }
+}
+
+/// Cases by hand: the paper's edge values and their neighbours.
+fn known_cases(random: &mut Random, cases: &mut Cases) {
+    let example = "(pattern margin 1 1 1 4)\n(place start (< 0 15))\n(place plain (> 0 5))\n(place end)\n\
+                   (edge 0 1 (< 0 3) (reset 0))\n(edge 1 2 (<= 0 2))\n";
+    let record = "(piece 2 10)\n(piece 2 40)\n";
+    for weighting in ["margin", "sum"] {
+        let pattern = example.replace("margin", weighting);
+        cases.add("example", "ok", &pattern, record);
+        cases.add("example", "ok", &pattern, "(piece 1 10)\n(piece 1 10)\n(piece 1 40)\n(piece 1 40)\n");
+        cases.add("example", "ok", pattern.replace("1 4)", "3 4)"), record);
+        cases.add("example", "ok", pattern.replace("1 4)", "4 4)"), record);
+        cases.add("example", "ok", pattern.replace("(<= 0 2)", "(<= 0 0)"), record);
+        cases.add("example", "ok", pattern.replace("(<= 0 2)", "(> 0 3)"), "(piece 9 10)\n");
+        cases.add("example", "ok", pattern, "");
+    }
+
+    // One change of the example each.
+    let changes: &[(&str, &str, &str)] = &[
+        ("ok", "(< 0 15)", "(< 0 1000000)"),
+        ("3", "(< 0 15)", "(< 0 1000001)"),
+        ("ok", "(< 0 15)", "(< 0 -1000000)"),
+        ("3", "(< 0 15)", "(< 0 -1000001)"),
+        ("2", "(< 0 15)", "(< 0 -0)"),
+        ("2", "(< 0 15)", "(< 0 -01)"),
+        ("2", "(< 0 15)", "(< 0 --1)"),
+        ("2", "(< 0 15)", "(< 0 -)"),
+        ("2", "(< 0 15)", "(< 0 +1)"),
+        ("2", "(< 0 15)", "(< 0 015)"),
+        ("2", "(< 0 15)", "(< -0 15)"),
+        ("2", "(< 0 15)", "(< -1 15)"),
+        ("2", "(< 0 15)", "(< 00 15)"),
+        ("5", "(< 0 15)", "(< 1 15)"),
+        ("5", "(< 0 15)", "(< 18446744073709551616 15)"),
+        ("5", "(< 0 15)", "(< 4294967296 15)"),
+        ("3", "(< 0 15)", "(< 0 18446744073709551616)"),
+        ("3", "(< 0 15)", "(< 0 -18446744073709551616)"),
+        ("3", "(< 0 15)", "(< 0 4294967296)"),
+        ("3", "(< 0 15)", "(< 1 1000001)"),
+        ("2", "(< 0 15)", "(< 0 15 )"),
+        ("2", "(< 0 15)", "( < 0 15)"),
+        ("2", "(< 0 15)", "(< 0)"),
+        ("2", "(< 0 15)", "(< 0 15 1)"),
+        ("2", "(< 0 15)", "()"),
+        ("2", "(< 0 15)", "((< 0 15))"),
+        ("2", "(< 0 15)", "< 0 15"),
+        ("2", "(< 0 15)", "(= 0 15)"),
+        ("2", "(< 0 15)", "(=< 0 15)"),
+        ("2", "(< 0 15)", "(< = 0 15)"),
+        ("2", "(< 0 15)", "(<0 15)"),
+        ("ok", "(< 0 15)", "(< 0 15) (< 0 15) (< 0 15) (< 0 15)"),
+        ("4", "(< 0 15)", "(< 0 15) (< 0 15) (< 0 15) (< 0 15) (< 0 15)"),
+        ("4", "(< 0 15)", "(< 0 15) (< 0 15) (< 0 15) (< 9 15) (< 0 1000001)"),
+        ("2", "(< 0 15)", "(< 0 15) (< 0 15) (< 0 15) (< 0 15) (< 0 15) (< 0 -0)"),
+        ("2", "(< 0 15)", "(reset 0)"),
+        ("2", "1 1 1 4", "1 1 1"),
+        ("2", "1 1 1 4", "1 1 1 4 4"),
+        ("2", "1 1 1 4", "1 1 01 4"),
+        ("2", "1 1 1 4", "-1 1 1 4"),
+        ("2", "1 1 1 4", "1 1 -1 4"),
+        ("3", "1 1 1 4", "1 1 4 3"),
+        ("3", "1 1 1 4", "1 1 0 4"),
+        ("3", "1 1 1 4", "1 1 0 0"),
+        ("3", "1 1 1 4", "0 1 1 4"),
+        ("3", "1 1 1 4", "9 1 1 4"),
+        ("3", "1 1 1 4", "1 5 1 4"),
+        ("3", "1 1 1 4", "1 1 1 4096"),
+        ("3", "1 1 1 4", "1 1 4096 4096"),
+        ("11", "1 1 1 4", "1 1 4095 4095"),
+        ("11", "1 1 1 4", "1 1 1 4095"),
+        ("3", "1 1 1 4", "1 1 18446744073709551617 4"),
+        ("3", "1 1 1 4", "1 1 1 18446744073709551620"),
+        ("5", "1 1 1 4", "1 0 1 4"),
+        ("8", "1 1 1 4", "8 1 1 4"),
+        ("ok", "1 1 1 4", "1 4 1 4"),
+        ("ok", "1 1 1 4", "1 1 4 4"),
+        ("2", "margin", "Margin"),
+        ("2", "margin", "product"),
+        ("2", "margin", "marginal"),
+        ("2", "pattern", "Pattern"),
+        ("2", "start", "Start"),
+        ("2", "start", "starts"),
+        ("2", "start", ""),
+        ("2", "place end", "place  end"),
+        ("2", "place end", "place\tend"),
+        ("2", "(place end)", "(place end )"),
+        ("2", "(place end)", "( place end)"),
+        ("2", "(place end)", "(place end) "),
+        ("2", "(place end)", " (place end)"),
+        ("2", "(place end)", "(place end)\r"),
+        ("2", "(place end)", "(place end)\n"),
+        ("2", "(place end)", "(place end"),
+        ("2", "(place end)", "(place end))"),
+        ("2", "(place end)", "(place)"),
+        ("2", "(place end)", "place end"),
+        ("2", "(place end)", "(place end (place end))"),
+        ("2", "(place end)", "(place end)\n(pattern margin 1 1 1 4)"),
+        ("2", "(place end)", "(place end)\n(piece 2 10)"),
+        ("5", "(place end)\n", ""),
+        ("2", "(edge 1 2 (<= 0 2))", "(edge 1 2 (<= 0 2))\n(place end)"),
+        ("2", "(edge 1 2 (<= 0 2))", "(edge 1 2 (<= 0 2))\n\n"),
+        ("2", "(edge 1 2 (<= 0 2))", "(edge 1)"),
+        ("2", "(edge 1 2 (<= 0 2))", "(edge)"),
+        ("2", "(edge 1 2 (<= 0 2))", "(edge 1 2 3)"),
+        ("2", "(edge 1 2 (<= 0 2))", "(edge -1 2)"),
+        ("2", "(edge 1 2 (<= 0 2))", "(edge (reset 0) 1 2)"),
+        ("ok", "(edge 1 2 (<= 0 2))", "(edge 1 2)"),
+        ("ok", "(edge 1 2 (<= 0 2))\n", ""),
+        ("5", "(edge 1 2 (<= 0 2))", "(edge 3 2)"),
+        ("5", "(edge 1 2 (<= 0 2))", "(edge 1 3)"),
+        ("5", "(edge 1 2 (<= 0 2))", "(edge 1 4294967296)"),
+        ("5", "(edge 1 2 (<= 0 2))", "(edge 18446744073709551616 2)"),
+        ("5", "(edge 1 2 (<= 0 2))", "(edge 1 2 (<= 1 2))"),
+        ("5", "(edge 1 2 (<= 0 2))", "(edge 1 2 (<= 256 2))"),
+        ("11", "(edge 1 2 (<= 0 2))", "(edge 1 2 (<= 0 1000))"),
+        ("3", "(edge 1 2 (<= 0 2))", "(edge 1 2 (<= 0 1001))"),
+        ("3", "(edge 1 2 (<= 0 2))", "(edge 3 3 (<= 1 1001) (reset 1))"),
+        ("3", "(edge 1 2 (<= 0 2))", "(edge 1 2 (<= 0 65536))"),
+        ("2", "(edge 1 2 (<= 0 2))", "(edge 1 2 (<= 0 -2))"),
+        ("ok", "(edge 1 2 (<= 0 2))", "(edge 1 2 (<= 0 2) (<= 0 2) (<= 0 2) (<= 0 2))"),
+        ("4", "(edge 1 2 (<= 0 2))", "(edge 1 2 (<= 0 2) (<= 0 2) (<= 0 2) (<= 0 2) (<= 0 2))"),
+        ("4", "(edge 1 2 (<= 0 2))", "(edge 9 9 (<= 0 2) (<= 0 2) (<= 9 2) (<= 0 1001) (<= 0 2))"),
+        ("2", "(edge 1 2 (<= 0 2))", "(edge 1 2 (<= 0 2) (reset 0) (<= 0 2))"),
+        ("2", "(reset 0)", "(reset)"),
+        ("2", "(reset 0)", "(reset )"),
+        ("2", "(reset 0)", "(reset -0)"),
+        ("2", "(reset 0)", "(reset 00)"),
+        ("2", "(reset 0)", "(reset 0) (reset 0)"),
+        ("2", "(reset 0)", "(reset (0))"),
+        ("5", "(reset 0)", "(reset 0 0)"),
+        ("5", "(reset 0)", "(reset 1)"),
+        ("5", "(reset 0)", "(reset 0 1)"),
+        ("5", "(reset 0)", "(reset 0 1 2 3 4)"),
+        ("5", "(reset 0)", "(reset 18446744073709551616)"),
+        // An earlier line decides.
+        ("5", "(> 0 5))\n", "(> 1 5))\n)"),
+        ("3", "(> 0 5))\n", "(> 0 1000001))\n(place)\n"),
+        ("3", "1 1 1 4)\n", "1 1 1 5000)\n)\n"),
+    ];
+    for (due, from, to) in changes {
+        let pattern = example.replacen(from, to, 1);
+        assert_ne!(pattern, example);
+        cases.add("example-changed", due, pattern, record);
+    }
+    let four = example.replacen("1 1 1 4", "1 4 1 4", 1);
+    for (due, resets) in [
+        ("ok", "0 1 2 3"), ("ok", "1 3"), ("5", "0 2 1"), ("5", "3 3"), ("5", "0 1 2 3 3"), ("5", "0 1 2 3 4"),
+        ("5", "1 0"), ("2", "0  1"), ("2", "0 1 "), ("2", "0 -1"),
+    ] {
+        cases.add("resets", due, four.replacen("reset 0", &format!("reset {resets}"), 1), record);
+    }
+
+    // Texts that lack whole lines.
+    for (due, pattern) in [
+        ("2", ""), ("2", "\n"), ("2", "()\n"), ("2", "("), ("2", "(pattern margin 1 1 1 4)"),
+        ("2", "(pattern margin 1 1 1 4)\n"), ("3", "(pattern margin 1 1 4 3)\n"), ("2", "(pattern margin 1 1 4 3)"),
+        ("2", "(pattern margin 1 1 1 4)\n(edge 0 0)\n"), ("2", "(pattern margin 1 1 1 4)\n(edge 0 0)\n(place both)\n"),
+        ("2", "(place both)\n"), ("ok", "(pattern margin 1 1 1 4)\n(place both)\n"),
+        ("ok", "(pattern sum 1 0 1 4)\n(place both)\n(edge 0 0)\n"),
+        ("2", "\n(pattern margin 1 1 1 4)\n(place both)\n"), ("2", "(pattern margin 1 1 1 4)\n\n(place both)\n"),
+        ("2", "(pattern margin 1 1 1 4)(place both)\n"), ("2", "(pattern margin 1 1 1 4)\n(place both)\n\0"),
+        ("2", "\u{feff}(pattern margin 1 1 1 4)\n(place both)\n"),
+    ] {
+        cases.add("few-lines", due, pattern, record);
+        cases.add("few-lines", due, pattern, ""); // and the record's file may be missing
+    }
+
+    // Many lines.
+    let lines = |header: &str, places: usize, edges: usize, edge: &str| {
+        format!("{header}\n{}{}", "(place both)\n".repeat(places), format!("{edge}\n").repeat(edges))
+    };
+    let header = "(pattern margin 1 0 1 2)";
+    for (due, places, edges, edge) in [
+        ("ok", 16, 0, ""), ("4", 17, 0, ""), ("4", 40, 0, ""), ("ok", 1, 32, "(edge 0 0)"), ("4", 1, 33, "(edge 0 0)"),
+        ("ok", 16, 32, "(edge 15 15)"), ("5", 16, 33, "(edge 15 16)"), ("4", 17, 33, "(edge 15 15)"),
+        ("4", 1, 99, "(edge 0 0)"), ("5", 16, 1, "(edge 16 0)"),
+    ] {
+        cases.add("many-lines", due, lines(header, places, edges, edge), record);
+    }
+    cases.add("many-lines", "2", lines(header, 16, 0, "") + "(place Both)\n", record);
+    cases.add("many-lines", "4", lines(header, 16, 0, "") + "(place both (< 7 1000001))\n", record);
+    cases.add("many-lines", "4", lines(header, 1, 32, "(edge 0 0)") + "(edge 9 9 (< 9 1001))\n", record);
+    cases.add("many-lines", "2", lines(header, 1, 32, "(edge 0 0)") + "(edge 0 0 )\n", record);
+    cases.add("many-lines", "2", lines(header, 1, 32, "(edge 0 0)") + "(place both)\n", record);
+    cases.add("many-lines", "2", lines(header, 16, 1, "(edge 0 0)") + "(place both)\n", record);
+
+    // "8,192 bytes reach the lines, 8,193 give 1."
+    for (due, size) in [("1", 8_193), ("1", 20_000)] {
+        cases.add("long-pattern", due, vec![b'x'; size], record);
+        cases.add("long-pattern", due, example.repeat(160)[..size].to_string(), record);
+        cases.add("long-pattern", due, "(".repeat(size), record);
+        cases.add("long-pattern", due, "\n".repeat(size), "(piece");
+    }
+    cases.add("long-pattern", "2", vec![b'x'; 8_192], record);
+    cases.add("long-pattern", "2", "(".repeat(8_192), record);
+    cases.add("long-pattern", "2", &example.repeat(160)[..8_192], record);
+    let padded = |text: &str, size: usize| text.replacen('@', &"9".repeat(size + 1 - text.len()), 1);
+    for (due, pattern) in [
+        ("3", "(pattern margin 1 1 1 @)\n"),
+        ("3", "(pattern margin 1 0 1 4)\n(place both (< 0 -@))\n"),
+        ("5", "(pattern margin 1 0 1 4)\n(place both (< @ 7))\n"),
+        ("5", "(pattern margin 1 0 1 4)\n(place both)\n(edge 0 @)\n"),
+        ("5", "(pattern margin 1 1 1 4)\n(place both)\n(edge 0 0 (reset 0 @))\n"),
+        ("3", "(pattern margin 1 1 1 4)\n(place both)\n(edge 0 0 (< 0 @))\n"),
+        ("2", "(pattern margin 1 1 1 4)\n(place both)\n(edge 0 0 (< 0 @))"),
+    ] {
+        cases.add("long-pattern", due, padded(pattern, 8_192), record);
+        cases.add("long-pattern", "1", padded(pattern, 8_193), record);
+    }
+    let tests = format!("(pattern margin 1 0 1 4)\n(place both{})\n", " (< 0 7)".repeat(900));
+    cases.add("long-pattern", "4", tests, record);
+
+    // Records: "(piece 2 10)" once changed.
+    let many = "(piece 1 0)\n";
+    for (due, text) in [
+        ("ok", ""), ("2", "\n"), ("2", "(piece 2 10)"), ("2", "(piece 2 10)\n\n"), ("2", "\n(piece 2 10)\n"),
+        ("2", "(piece 2 10)\r\n"), ("2", "(piece 2  10)\n"), ("2", "(piece 2\t10)\n"), ("2", "(piece 2)\n"),
+        ("2", "(piece)\n"), ("2", "(Piece 2 10)\n"), ("2", "(piece 2 10 )\n"), ("2", " (piece 2 10)\n"),
+        ("2", "(piece 2 (10))\n"), ("2", "(piece 02 10)\n"), ("2", "(piece 2 010)\n"), ("2", "(piece 2 -0)\n"),
+        ("2", "(piece -2 10)\n"), ("2", "(piece -0 10)\n"), ("2", "(piece 2 +10)\n"), ("2", "(piece 2 1e1)\n"),
+        ("2", "(piece 2 10)(piece 2 10)\n"), ("2", "(piece 2 10) (piece 2 10)\n"), ("2", "(place 2 10)\n"),
+        ("2", "(piece 2 10.0)\n"), ("2", "piece 2 10\n"), ("2", "(piece 2 10)\n\0"), ("2", "(pattern margin 1 1 1 4)\n"),
+        ("8", "(piece 0 10)\n"), ("8", "(piece 2 10 10)\n"), ("8", "(piece 2 10 10 10 10 10 10 10 10 10)\n"),
+        ("8", "(piece 2 1000001)\n"), ("8", "(piece 2 -1000001)\n"), ("ok", "(piece 2 1000000)\n(piece 3 -1000000)\n"),
+        ("8", "(piece 2 18446744073709551626)\n"), ("8", "(piece 2 -18446744073709551626)\n"),
+        ("8", "(piece 18446744073709551618 10)\n"), ("8", "(piece 4294967298 10)\n"), ("8", "(piece 2147483648 10)\n"),
+        ("8", "(piece 2147483647 10)\n(piece 1 10)\n"), ("8", "(piece 2147483647 10)\n(piece 2147483647 10)\n"),
+        ("8", "(piece 1073741824 10)\n(piece 1073741824 10)\n"),
+        ("8", "(piece 2147483647 10)\n(piece 2147483647 10)\n(piece 2 10)\n"), // 2 to the 32nd in all
+        ("8", "(piece 2 10)\n(piece 0 10)\n"), ("2", "(piece 0 10)\n(piece 2 -0)\n"),
+        ("2", "(piece 2 1000001)\n(piece 2 10)"), ("2", "(piece 2 10 10)\n)\n"),
+        ("8", "(piece 1 10)\n(piece 1 10 10)\n"),
+    ] {
+        cases.add("record", due, example, text);
+        // The record is judged before the tables.
+        let over = example.replacen("1 4)", "1 4095)", 1);
+        cases.add("record-beside-too-many-cells", if due == "ok" { "11" } else { due }, over, text);
+        // The pattern is judged before the record.
+        cases.add("record-beside-faulty-pattern", "3", example.replacen("1 4)", "1 4096)", 1), text);
+    }
+    let two = "(pattern sum 2 0 1 3)\n(place start (< 1 7))\n(place end)\n(edge 0 1)\n";
+    for (due, text) in [("ok", "(piece 2 10 10)\n"), ("8", "(piece 2 10)\n"), ("8", "(piece 2 10 10 10)\n"),
+        ("8", "(piece 1 1 1)\n(piece 1 1)\n(piece 1 1 1 1)\n"), ("2", "(piece 2)\n")] {
+        cases.add("record-of-two-channels", due, two, text);
+    }
+    cases.add("long-duration", "11", example.replacen("1 4)", "1 4095)", 1), "(piece 2147483647 10)\n");
+    cases.add("long-duration", "11", example.replacen("1 4)", "1 4095)", 1), "(piece 2147483646 10)\n(piece 1 10)\n");
+    cases.add("long-duration", "ok", example.replacen("(<= 0 2)", "(<= 0 0)", 1), "(piece 65535 10)\n(piece 65536 10)\n");
+    cases.add("long-duration", "ok", example.replacen("margin", "sum", 1), "(piece 1 7)\n(piece 65537 10)\n(piece 2 40)\n");
+    cases.add("long-record", "ok", example, many.repeat(1_365));
+    cases.add("long-record", "1", example, many.repeat(1_366));
+    for (size, due, pattern) in [(16_384, "8", example), (16_385, "1", example), (16_385, "2", "(pattern"), (30_000, "1", example)] {
+        cases.add("long-record", due, pattern, padded("(piece 1 @)\n", size));
+        cases.add("long-record", due, pattern, padded("(piece @ 1)\n", size));
+    }
+    cases.add("long-record", "1", example, vec![b'x'; 16_385]);
+    cases.add("long-record", "2", example, vec![b'x'; 16_384]);
+    cases.add("long-record", "2", example, "(".repeat(16_384));
+    let exact = many.repeat(1_364) + "(piece 10 -1000)\n"; // 1,364 × 12 + 17 = 16,385
+    cases.add("long-record", "1", example, &exact);
+    let exact = many.repeat(1_364) + "(piece 1 -1000)\n"; // 16,384
+    cases.add("long-record", "ok", example, &exact);
+
+    // Exactly 2,048 cells, and just above.
+    let free = |high: usize, clocks: usize, places: usize| {
+        format!("(pattern margin 1 {clocks} 1 {high})\n(place start (> 0 2))\n{}(edge 0 1)\n", "(place end)\n".repeat(places - 1))
+    };
+    let short = "(piece 3 5)\n(piece 2 1)\n(piece 4 5)\n";
+    for (due, high, clocks, places) in [
+        ("ok", 511, 0, 2), ("11", 512, 0, 2), ("ok", 63, 0, 16), ("11", 64, 0, 16), ("ok", 255, 1, 2), ("11", 256, 1, 2),
+        ("ok", 127, 2, 2), ("11", 128, 2, 2), ("ok", 31, 4, 2), ("11", 32, 4, 2), ("ok", 340, 0, 3), ("11", 341, 0, 3),
+        ("11", 4_095, 4, 16),
+    ] {
+        cases.add("cells", due, free(high, clocks, places), short);
+        cases.add("cells", due, free(high, clocks, places), "");
+    }
+    for (due, bound) in [("ok", 254), ("11", 255), ("11", 1_000)] {
+        // 2 × 2 × 2 × (bound + 2)
+        let pattern = format!("(pattern sum 1 1 1 1)\n(place start (> 0 2))\n(place end)\n(edge 0 1 (< 0 {bound}))\n");
+        cases.add("cells", due, pattern, short);
+    }
+    let pattern = "(pattern sum 1 1 1 1)\n(place start (> 0 2))\n(place end)\n(edge 0 1 (< 0 254))\n(edge 0 1 (< 0 3))\n";
+    cases.add("cells", "ok", pattern, short);
+    let huge = format!(
+        "(pattern sum 1 4 1 4095)\n{}(edge 0 1 (< 0 1000) (< 1 1000) (< 2 1000) (< 3 1000))\n",
+        "(place both)\n".repeat(16)
+    );
+    cases.add("cells", "11", huge, short);
+
+    // Scores as far out as they go.
+    let far = "(pattern margin 1 0 1 9)\n(place start (> 0 1000000) (> 0 1000000) (> 0 1000000) (> 0 1000000))\n\
+               (place end)\n(edge 0 0)\n(edge 0 1)\n";
+    for weighting in ["margin", "sum"] {
+        for sign in SIGNS {
+            for bound in ["1000000", "-1000000"] {
+                let pattern = far.replace("margin", weighting).replace("(>", &format!("({sign}")).replace("1000000", bound);
+                let values = "(piece 1 -1000000)\n(piece 1 1000000)\n";
+                cases.add("far", "ok", pattern, values.repeat(3 + random.below(3)));
+            }
+        }
+    }
+}
+
+fn stop(message: &str) -> ! {
+    eprintln!("{message}");
+    exit(2)
+}
+
+/// Writes each case of the file into a folder of its own. In cases with an even number an empty text
+/// gets no file at all: "A file that can't be opened counts as empty".
+fn write_folders(cases: &str, out: &str) -> std::io::Result<()> {
+    let bytes = std::fs::read(cases)?;
+    let mut rest = &bytes[..];
+    while !rest.is_empty() {
+        let length = rest.iter().position(|byte| *byte == b'\n').unwrap_or_else(|| stop("header cut short"));
+        let header = String::from_utf8_lossy(&rest[..length]).to_string();
+        let fields: Vec<&str> = header.split(' ').collect();
+        let size = |at: usize| -> usize {
+            fields.get(at).and_then(|field| field.parse().ok()).unwrap_or_else(|| stop("header without its sizes"))
+        };
+        let (number, pattern, record) = (size(1), size(2), size(3));
+        let texts = &rest[length + 1..];
+        let folder = format!("{out}/{number}");
+        std::fs::create_dir_all(&folder)?;
+        for (name, text) in [("pattern.txt", &texts[..pattern]), ("record.txt", &texts[pattern..pattern + record])] {
+            if !text.is_empty() || number % 2 == 1 {
+                std::fs::write(format!("{folder}/{name}"), text)?;
+            }
+        }
+        rest = &texts[pattern + record + 1..];
+    }
+    Ok(())
+}
+
+fn main() {
+    let arguments: Vec<String> = std::env::args().skip(1).collect();
+    let arguments: Vec<&str> = arguments.iter().map(String::as_str).collect();
+    let seed = match arguments[..] {
+        ["--dirs", cases, out] => {
+            return write_folders(cases, out).unwrap_or_else(|error| stop(&error.to_string()));
+        }
+        [_] => 1,
+        [_, seed] => seed.parse().unwrap_or_else(|_| stop("the seed is no number")),
+        _ => stop("usage: generate CASES [SEED] | generate --dirs CASES OUT"),
+    };
+    let mut random = Random(seed);
+    let mut cases = Cases { bytes: Vec::new(), count: 0, kinds: BTreeMap::new() };
+    known_cases(&mut random, &mut cases);
+    random_cases(&mut random, &mut cases);
+    faulty_cases(&mut random, &mut cases);
+    for (kind, count) in &cases.kinds {
+        println!("{count:6}  {kind}");
+    }
+    println!("{:6}  cases", cases.count);
+    std::fs::write(arguments[0], cases.bytes).unwrap_or_else(|error| stop(&error.to_string()));
+    if cases.count < 3_000 {
+        stop("fewer than 3000 cases");
+    }
+}
