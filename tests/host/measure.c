@@ -2,7 +2,7 @@
  * that only counts the brackets of the same bytes. It is no test; run it on a machine that does nothing else:
  *
  *     rt staticlib host
- *     gcc -O2 -Wall -Wextra -Iinclude tests/host/measure.c target/staticlib/libhost.a -o /tmp/measure && /tmp/measure
+ *     gcc -O2 -Wall -Wextra -Iinclude tests/host/measure.c target/staticlib/libhost.a -o measure && ./measure
  *
  * Each figure is the least of many rounds, so what else the machine does counts little. */
 #define _POSIX_C_SOURCE 199309L
