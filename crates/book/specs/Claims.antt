@@ -1,5 +1,5 @@
 -- What is proved: on a book, runs as document 01 prices them are the runs of the pattern's automaton, with the same worth,
--- begin and length; and holding the clocks at their ceilings goes unnoticed.
+-- begin and length; and holding the clocks at their ceilings changes no run.
 use Prim.Native.Nat.{ℕ, _+_, _≤_}
 use mathlib.Core.Path.{_≡_}
 use mathlib.Core.Bool.{true}

@@ -22,7 +22,8 @@ abbrev pub counts : Weighing → (new entered : Bool) → Bool
 counts Margin new entered = true
 counts Sum new entered = entered || new
 
--- What the worth of a run in a place is combined with: the place's worth of the sample, or nothing that shows.
+-- What the worth of a run in a place is combined with: the place's worth of the sample, or the unit,
+-- which changes no worth.
 unfoldable pub gainIn : Weighing → Place → Sample → (new entered : Bool) → ℤ
 gainIn w l s new entered = cond (counts w new entered) (placeWorth w l s) (weightingOf w .unit)
 

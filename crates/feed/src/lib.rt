@@ -14,21 +14,20 @@ use table::clear;
 ghost use mathlib.Core.Path.{_≡_};
 ghost use mathlib.Core.Bool.{true, false, not};
 ghost use mathlib.Core.Option.{none};
-ghost use Prim.Native.Nat.{suc, _≤_};
-ghost use mathlib.Core.List.{_++_, map};
+ghost use Prim.Native.Nat.{_≤_};
+ghost use mathlib.Core.List.{_++_};
 ghost use lib.ListN.{length, take, drop};
-ghost use lib.IntN.{pos};
 ghost use Rattle.pattern.specs.Sound.{soundOf};
 ghost use Rattle.pattern.specs.Cells.{cellsNeeded};
 ghost use Rattle.pattern.specs.Slots.{all};
 ghost use Rattle.record.specs.Record.{valueInRange};
-ghost use Rattle.record.specs.Joined.{sameSample};
-ghost use Rattle.monitor.specs.Cells.{upTo, heldBy, written};
-ghost use Rattle.monitor.specs.Tick.{openTable, ticksLater, reportOf, scoreIn, lengthIn};
-ghost use Rattle.monitor.specs.State.{noTicks, lastSample, pieceLater};
-ghost use Rattle.monitor.specs.Open.{marks, openRefusal, openFirst, openSecond};
-ghost use Rattle.monitor.specs.Feed.{isNew, pieceView, cellFine, feedCause, tableAfter, reportAfter};
+ghost use Rattle.monitor.specs.Cells.{written};
+ghost use Rattle.monitor.specs.Tick.{openTable};
+ghost use Rattle.monitor.specs.State.{noTicks, pieceLater};
+ghost use Rattle.monitor.specs.Open.{marks, openFirst, openSecond};
+ghost use Rattle.monitor.specs.Feed.{isNew, cellFine, feedCause, tableAfter};
 ghost use Rattle.monitor.specs.Feed.{feedFirst, feedSecond, feedScores, feedLengths};
+ghost use Rattle.feed.specs.Piece.{tableIn, scoresIn, lengthsIn};
 ghost use Rattle.feed.specs.After.{openedOf, callOf, fedOf};
 
 // Are the piece's values new to the state's last ones?
@@ -127,13 +126,11 @@ fn tell_piece(
         × (cellsNeeded p ≤ length (now first)) × (all cellFine (take (cellsNeeded p) (now first)) ≡ true)
         × (duration ≤ length (now scores)) × (duration ≤ length (now lengths)) ⌝ }
     ensures { λ _. ⌜ now (first .exit)
-        ≡ written p (ticksLater p (pieceView p new (now (values .entry))) (heldBy p (now (first .entry))) duration) (now (first .entry)) ⌝ }
+        ≡ written p (tableIn p new (now (values .entry)) (now (first .entry)) duration) (now (first .entry)) ⌝ }
     ensures { λ _. ⌜ now (scores .exit)
-        ≡ map (λ i. scoreIn (reportOf p (ticksLater p (pieceView p new (now (values .entry))) (heldBy p (now (first .entry))) (suc i)))) (upTo duration)
-        ++ drop duration (now (scores .entry)) ⌝ }
+        ≡ scoresIn p new (now (values .entry)) (now (first .entry)) duration (now (scores .entry)) ⌝ }
     ensures { λ _. ⌜ now (lengths .exit)
-        ≡ map (λ i. lengthIn (reportOf p (ticksLater p (pieceView p new (now (values .entry))) (heldBy p (now (first .entry))) (suc i)))) (upTo duration)
-        ++ drop duration (now (lengths .entry)) ⌝ }
+        ≡ lengthsIn p new (now (values .entry)) (now (first .entry)) duration (now (lengths .entry)) ⌝ }
 {
     let l = layout_of(p, p.high);
     let w = p.weighing;
@@ -172,15 +169,16 @@ fn feed_piece(
     scores: &mut [i64],
     lengths: &mut [u32],
 ) -> State
-    requires { ⌜ feedCause p s (now first) (length (now second)) duration (now values) (length (now scores)) (length (now lengths)) ≡ none ⌝ }
+    requires { ⌜ feedCause p s (now first) (length (now second)) duration (now values)
+        (length (now scores)) (length (now lengths)) ≡ none ⌝ }
     ensures { λ r. ⌜ r ≡ pieceLater p s duration (now (values .entry)) ⌝ }
     ensures { λ _. ⌜ now (first .exit)
         ≡ written p (tableAfter p s (now (first .entry)) (now (values .entry)) duration) (now (first .entry)) ⌝ }
     ensures { λ _. ⌜ now (second .exit) ≡ marks p (now (second .entry)) ⌝ }
-    ensures { λ _. ⌜ now (scores .exit)
-        ≡ map (λ i. scoreIn (reportAfter p s (now (first .entry)) (now (values .entry)) i)) (upTo duration) ++ drop duration (now (scores .entry)) ⌝ }
-    ensures { λ _. ⌜ now (lengths .exit)
-        ≡ map (λ i. lengthIn (reportAfter p s (now (first .entry)) (now (values .entry)) i)) (upTo duration) ++ drop duration (now (lengths .entry)) ⌝ }
+    ensures { λ _. ⌜ now (scores .exit) ≡ scoresIn p (isNew p s (now (values .entry))) (now (values .entry))
+        (now (first .entry)) duration (now (scores .entry)) ⌝ }
+    ensures { λ _. ⌜ now (lengths .exit) ≡ lengthsIn p (isNew p s (now (values .entry))) (now (values .entry))
+        (now (first .entry)) duration (now (lengths .entry)) ⌝ }
 {
     let new = is_new(p, s, values);
     tell_piece(p, new, duration, values, first, scores, lengths);

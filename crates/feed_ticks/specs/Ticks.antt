@@ -1,4 +1,5 @@
--- The ticks of a piece as the code goes through them. That this is what feeding means is a theorem of the crate feed.
+-- The ticks of a piece as the code goes through them. That this is what feeding means is proved in
+-- the crate feed (proofs/Meaning).
 use Prim.Native.Nat.{ℕ, zero, suc, _+_, _≤_}
 use mathlib.Core.List.{List, _++_, map}
 use mathlib.Core.Bool.{Bool, true, false, cond}

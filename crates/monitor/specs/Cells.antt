@@ -39,6 +39,7 @@ stateAt p i =
       clocks = cell.cellClocks (layout p) i;
     }
 
+-- the index of the cell that stands for a state
 abbrev pub indexOf : Pattern → State Clocks → ℕ
 indexOf p s = cell.indexOf (layout p) (s .len) (cond (s .entered) 0 1) (s .place) (s .clocks)
 
@@ -46,6 +47,7 @@ indexOf p s = cell.indexOf (layout p) (s .len) (cond (s .entered) 0 1) (s .place
 abbrev pub cellStates : Pattern → List (State Clocks)
 cellStates p = map (stateAt p) (upTo (cellsNeeded p))
 
+-- whether a state has a cell: it stands for the state at its index
 unfoldable pub isCell : Pattern → State Clocks → Bool
 isCell p s = ltb (indexOf p s) (cellsNeeded p) && sameState sameClocks s (stateAt p (indexOf p s))
 

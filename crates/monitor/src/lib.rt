@@ -1,4 +1,4 @@
-// The monitor: opening, feeding, best of a record.
+// The monitor's state and what its calls answer. Opening and feeding are defined in specs/; the crate feed has the code.
 use pattern::Refusal;
 
 // What the monitor keeps between calls beside its tables: ticks so far, and the last values, zeros before the first piece

@@ -29,7 +29,7 @@ pub record Found (durations : List ℕ) (begin : ℕ) (r : Begin) : Type 0 where
   pub below : r .used < getD durations (r .piece) 0
   pub is : begin ≡ total (take (r .piece) durations) + r .used
 
--- The clocks can grow so far in 32 bits.
+-- The clocks can grow by n and stay below 2^32.
 abbrev pub Room : Clocks → ℕ → Type 0
 Room cs n = (k : ℕ) → clockAt cs k + n < 2 ^ 32
 
@@ -84,7 +84,7 @@ pub record Able (p : Pattern) (s : Stand) (x : Step) : Type 0 where
   pub can : canStep p (s .place) (s .clocks) x ≡ true
   pub fits : x .stay ≤ s .left
 
--- From s to r by a step, made or not: what will come of it all stays the same.
+-- From s to r by a step, made or not: the outcome of the steps that follow is that of all steps from s.
 pub record Stepped (p : Pattern) (durations : List ℕ) (values : List ℤ) (s : Stand) (x : Step) (r : Stand) : Type 0 where
   pub held : Held p durations values r
   pub same : (xs : List Step) → outcome p durations values r xs ≡ outcome p durations values s (x ∷ xs)

@@ -74,7 +74,7 @@ toCome w l n ds vs first s =
     combineFrom (weightingOf w) (s .worth)
     (map (placeWorth w l) (newTo (seenAt n vs first (s .piece)) (take (s .left) (ahead n ds vs (s .piece) (s .used)))))
 
--- From s to r: nearer to the end, which is the same.
+-- From s to r: less of the stay is left, and its worth at its end is the same.
 pub record Turned (w : Weighing) (l : Place) (channels : ℕ) (durations : List ℕ) (values : List ℤ) (first : ℕ) (s r : Walk) : Type 0 where
   pub stands : Stands durations (r .piece) (r .used)
   pub onward : first ≤ r .piece

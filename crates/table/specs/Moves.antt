@@ -92,7 +92,7 @@ rowOf l w v es count n t =
     movesOf l w v (edgeIn es) n 0 count
     (movesOf l w v still n 1 (l .places) (cleared t ((n + 1) * l .row) ((n + 1) * l .row + l .row)))
 
--- The rows after those below n, the longest first.
+-- Rows n to 1 made anew, each from the row below it, the longest first.
 unfoldable pub rowsOf : Layout → Weighing → View → List Edge → (count n : ℕ) → List ℤ → List ℤ
 rowsOf l w v es count zero t = t
 rowsOf l w v es count (suc n) t = rowsOf l w v es count n (rowOf l w v es count n t)

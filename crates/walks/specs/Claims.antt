@@ -35,7 +35,8 @@ module _ {W C E : Type 0} (𝓦 : Weighting W) (A : Automaton C E) (Q : Same C) 
       Worthy 𝓦 𝓥 → (n len : ℕ) (w : W) → 1 ≤ len → len ≤ high
       → ((b : ℕ) × Run 𝓦 A 𝓥 b n len w) ↔ Arrives 𝓦 A Q 𝓥 high n len w
 
-  -- 2. Who holds the clocks reaches the same, seen with its clocks held, with the same worth; so runs are these walks, too.
+  -- 2. An automaton that holds the clocks reaches the same states, with their clocks held, and with the same worths. So runs
+  -- are the walks of this automaton, too.
   abbrev pub HeldWalks : Type 0
   HeldWalks =
       (hold : C → C) → Holding A hold → (n : ℕ) (r : State C) (w : W)
@@ -60,7 +61,7 @@ module _ {W C E : Type 0} (𝓦 : Weighting W) (A : Automaton C E) (Q : Same C) 
       → (low : ℕ) → 1 ≤ low → (n : ℕ)
       → IsBest (shortest (𝓦 .order)) (Wanted 𝓦 A 𝓥 low high n) (reportAt 𝓦 (heldAt hold A) Q high all low 𝓥 n)
 
-  -- The same in words.
+  -- The same, said of a run, its worth and its length.
   abbrev pub ReportsSay : Type 0
   ReportsSay =
       Worthy 𝓦 𝓥 → (hold : C → C) → Holding A hold → (all : List (State C)) → Closed (heldAt hold A) high all

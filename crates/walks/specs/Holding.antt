@@ -3,7 +3,7 @@ use mathlib.Core.Path.{_≡_}
 use mathlib.Core.List.{List·Memᴰ}
 use Rattle.walks.specs.Automaton.{Automaton, State}
 
--- What makes holding go unnoticed: zeros are held already; a tick, a reset and the guards see no more of the clocks than
+-- What is asked so that holding changes no run: zeros are held already; a tick, a reset and the guards see no more of the clocks than
 -- what is held.
 pub record Holding {C E : Type 0} (A : Automaton C E) (hold : C → C) : Type 0 where
   pub of-zeros : hold (A .zeros) ≡ A .zeros
