@@ -17,7 +17,8 @@ use Rattle.pattern.proofs.SoundLaws.{parts}
 use Rattle.record.specs.Record.{Book}
 use Rattle.monitor.specs.Demand.{InWindow, BestRun, NoRun}
 use Rattle.monitor.proofs.Demand.{report-right}
-use Rattle.best.specs.Best.{Chosen, chosenWith, chosenTo, scoreAt, lengthAt}
+use Rattle.best.specs.Best.{Chosen, chosenWith, chosenTo, chosenOf, scoreAt, lengthAt}
+use Rattle.best.specs.Search.{chosenBy}
 use Rattle.best.specs.Claims.{BestTo, NoneTo, Told, BestOfRecord}
 
 module _ (p : Pattern) (sound : soundOf p ≡ true) (b : Book) where
@@ -117,3 +118,11 @@ module _ (p : Pattern) (sound : soundOf p ≡ true) (b : Book) where
 
 pub best-of-record : BestOfRecord
 best-of-record p sound b = told p sound b (length b) (omega arith)
+
+-- a run that is chosen begins in the book
+pub begins-inside : (p : Pattern) → soundOf p ≡ true → (b : Book) (end len : ℕ) (score : ℤ) → chosenBy end len score ≡ chosenOf p b → len ≤ end
+unfolding chosenBy
+begins-inside p sound b end zero score e = omega arith
+begins-inside p sound b end (suc len) score e =
+    let k = subst (Told p b (length b)) (sym e) (best-of-record p sound b) in
+    lasts p sound b end (suc len) score (k .attained) .1

@@ -1,2 +1,7 @@
--- Why the choice among the reports is the best over all ends.
+-- Why the choice among the reports is the best over all ends; and why the code finds it.
 pub mod Ends
+pub mod Choices
+pub mod Pieces
+pub mod Chunk
+pub mod Turn
+pub mod Whole

@@ -15,8 +15,8 @@ use Rattle.book.specs.View.{viewOf}
 use Rattle.monitor.specs.Cells.{written}
 use Rattle.monitor.specs.Tick.{openTable, ticksLater, reportOf, scoreIn, lengthIn}
 use Rattle.monitor.specs.Open.{firstCause, unlessRefused, tableTooShort, marks}
-use Rattle.best.specs.declared.Best.{Best}
-use Rattle.best.specs.declared.Best.the-variants.{Run, Nothing, Refused}
+use Rattle.best.specs.declared.Found.{Found}
+use Rattle.best.specs.declared.Found.the-variants.{Run, Nothing, Refused}
 
 -- A run's end, length and score.
 pub record Chosen : Type 0 where
@@ -61,12 +61,12 @@ bestRefusal p ds vs first second =
     ∷ [])
 
 -- "the best end, begin and score .., or none"; the begin is the end less the length
-abbrev pub answered : Option Refusal → Option Chosen → Best
+abbrev pub answered : Option Refusal → Option Chosen → Found
 answered (some r) o = Refused r
 answered none none = Nothing
 answered none (some f) = Run (f .end) (f .end - f .len) (f .score)
 
-abbrev pub bestOf : Pattern → (durations : List ℕ) → (values : List ℤ) → (first second : List ℤ) → Best
+abbrev pub bestOf : Pattern → (durations : List ℕ) → (values : List ℤ) → (first second : List ℤ) → Found
 bestOf p ds vs t u = answered (bestRefusal p ds vs (length t) (length u)) (chosenOf p (bookOf (p .channels) ds vs))
 
 -- "The tables are left as opening and then feeding the whole record leaves them": the table after all ticks, and marks.

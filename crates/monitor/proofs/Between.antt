@@ -42,7 +42,7 @@ use Rattle.monitor.specs.Demand.{refusalBy}
 use Rattle.monitor.proofs.CellLaws.{Celled, of-cells, in-cells}
 use Rattle.monitor.proofs.Sizes.{Sized, table-sized, sized-low}
 use Rattle.monitor.proofs.Written.{held-written, written-length, marks-length, cells-fine}
-use Rattle.monitor.proofs.PieceViews.{longer, sample-new, sample-old, view-old, view-new, before-end}
+use Rattle.monitor.proofs.PieceViews.{sample-front, view-front, longer, sample-new, view-new, before-end}
 
 -- a sample as an accepted piece has it
 abbrev pub Fine : Pattern → Sample → Type 0
@@ -119,7 +119,7 @@ module _ (p : Pattern) (b : Book) (s : State) (t u : List ℤ) (h : Between p b 
   pub last-is : lastSample p s ≡ before p b (length b)
   last-is = ap (take (p .channels)) (h .last) ∙ take-at (before p b (length b)) (replicate (8 - p .channels) (pos 0)) (p .channels) (before-fine .0)
 
-  rest-is : drop (p .channels) (s .last) ≡ replicate (8 - p .channels) (pos 0)
+  pub rest-is : drop (p .channels) (s .last) ≡ replicate (8 - p .channels) (pos 0)
   rest-is = ap (drop (p .channels)) (h .last) ∙ drop-at (before p b (length b)) (replicate (8 - p .channels) (pos 0)) (p .channels) (before-fine .0)
 
   -- ---- no other cause can arise
@@ -200,7 +200,7 @@ module _ (p : Pattern) (b : Book) (s : State) (t u : List ℤ) (h : Between p b 
         let 𝓦 = weightingOf (p .weighing) in
         let A = heldAutomaton p in
         let old : bookTable p b ≡ ticksLater p (viewOf p next) (openTable p) (length b) =
-        only-passed 𝓦 A sameClocks (p .high) (cellStates p) (viewOf p b) (viewOf p next) (openTable p) (length b) (λ i f k q. sym (view-old p b d (c .values) i f k q)) in
+        only-passed 𝓦 A sameClocks (p .high) (cellStates p) (viewOf p b) (viewOf p next) (openTable p) (length b) (λ i f k q. sym (view-front p b (replicate d (c .values)) i f k q)) in
         let same : (y : Place Clocks) → List·Memᴰ y (cellStates p) → heldBy p t y ≡ ticksLater p (viewOf p next) (openTable p) (length b) y =
         λ y i. h .holds y i ∙ ap (λ (U : Table ℤ Clocks). U y) old in
         let new : isNew p s (c .values) ≡ not (sameSample (c .values) (before p b (length b))) = ap (λ (q : Sample). not (sameSample (c .values) q)) last-is in
@@ -212,7 +212,7 @@ module _ (p : Pattern) (b : Book) (s : State) (t u : List ℤ) (h : Between p b 
     next-fine i l = by (ltb i (length b)) refl
       where
         by : (x : Bool) → ltb i (length b) ≡ x → Fine p (sampleAt next i)
-        by true e = let k = ltb-true i (length b) e in rw (sample-old p b d (c .values) i k) (h .fine i k)
+        by true e = let k = ltb-true i (length b) e in rw (sample-front p b (replicate d (c .values)) i k) (h .fine i k)
         by false e =
             let k = ltb-false i (length b) e in
             let q = next-length in

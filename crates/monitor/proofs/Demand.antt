@@ -75,7 +75,7 @@ module _ (p : Pattern) (b : Book) (s : State) (t u : List ℤ) (h : Between p b 
   same-said end B B′ x x′ n n′ e f g k = rw (e, f, g) k
 
   module _ (none-given : refusalBy p b c ≡ none) where
-    feed-given : feedRefusal p s t u c ≡ none
+    pub feed-given : feedRefusal p s t u c ≡ none
     feed-given = refusal-is p b s t u h c ∙ none-given
 
     book-is : bookAfter p b c ≡ next p b s t u h c none-given
@@ -95,13 +95,13 @@ module _ (p : Pattern) (b : Book) (s : State) (t u : List ℤ) (h : Between p b 
     lengths-are : feedLengths p s t u c ≡ map (λ i. lengthIn (reportAfter p s t (c .values) i)) (upTo (c .duration)) ++ drop (c .duration) (c .lengths)
     lengths-are = ap (λ (o : Option Refusal). unlessRefused o (map (λ i. lengthIn (reportAfter p s t (c .values) i)) (upTo (c .duration)) ++ drop (c .duration) (c .lengths)) (c .lengths)) feed-given
 
-    score-at : (i : ℕ) → i < c .duration → getD (feedScores p s t u c) i (pos 0) ≡ scoreIn (reportOf p (ticksLater p (viewOf p (next p b s t u h c none-given)) (openTable p) (length b + i + 1)))
+    pub score-at : (i : ℕ) → i < c .duration → getD (feedScores p s t u c) i (pos 0) ≡ scoreIn (reportOf p (ticksLater p (viewOf p (next p b s t u h c none-given)) (openTable p) (length b + i + 1)))
     score-at i l =
         ap (λ (q : List ℤ). getD q i (pos 0)) scores-are
         ∙ made-front (λ i. scoreIn (reportAfter p s t (c .values) i)) (c .duration) i (pos 0) (drop (c .duration) (c .scores)) l
         ∙ ap scoreIn (report-is i l)
 
-    length-at : (i : ℕ) → i < c .duration → getD (feedLengths p s t u c) i 0 ≡ lengthIn (reportOf p (ticksLater p (viewOf p (next p b s t u h c none-given)) (openTable p) (length b + i + 1)))
+    pub length-at : (i : ℕ) → i < c .duration → getD (feedLengths p s t u c) i 0 ≡ lengthIn (reportOf p (ticksLater p (viewOf p (next p b s t u h c none-given)) (openTable p) (length b + i + 1)))
     length-at i l =
         ap (λ (q : List ℕ). getD q i 0) lengths-are
         ∙ made-front (λ i. lengthIn (reportAfter p s t (c .values) i)) (c .duration) i 0 (drop (c .duration) (c .lengths)) l
@@ -155,7 +155,7 @@ all-right p (c ∷ cs) b s t u h =
 
 -- ---- the opening
 
-open-parts : (p : Pattern) (first second : ℕ) → openRefusal p first second ≡ none → (soundOf p ≡ true) × (cellsNeeded p ≤ first) × (cellsNeeded p ≤ second)
+pub open-parts : (p : Pattern) (first second : ℕ) → openRefusal p first second ≡ none → (soundOf p ≡ true) × (cellsNeeded p ≤ first) × (cellsNeeded p ≤ second)
 unfolding openRefusal
 open-parts p first second e =
     let one = no-cause (not (soundOf p)) UnsoundPattern ((tableTooShort p first second, TableTooShort) ∷ []) e in
@@ -163,7 +163,7 @@ open-parts p first second e =
     let both = neither (ltb first (cellsNeeded p)) (ltb second (cellsNeeded p)) (two .0) in
     (not-false (soundOf p) (one .0), ltb-false _ _ (both .0), ltb-false _ _ (both .1))
 
-fresh : (p : Pattern) (t u : List ℤ) → (soundOf p ≡ true) × (cellsNeeded p ≤ length t) × (cellsNeeded p ≤ length u) → Between p [] noTicks (written p (openTable p) t) (marks p u)
+pub fresh : (p : Pattern) (t u : List ℤ) → (soundOf p ≡ true) × (cellsNeeded p ≤ length t) × (cellsNeeded p ≤ length u) → Between p [] noTicks (written p (openTable p) t) (marks p u)
 unfolding before
 fresh p t u k =
     let none-there : (i : ℕ) → i < 0 → Fine p (sampleAt [] i) = λ i l. absurd (omega arith) in

@@ -16,6 +16,19 @@ use Rattle.record.proofs.JoinedLaws.{same-self}
 use Rattle.book.specs.View.{tickView, sampleAt, before, viewOf}
 use Rattle.monitor.specs.Feed.{pieceView}
 
+-- a book's ticks are the same once more is added to it
+module _ (p : Pattern) (b more : Book) where
+  pub sample-front : (t : ℕ) → t < length b → sampleAt (b ++ more) t ≡ sampleAt b t
+  sample-front t h = List·getD-append b more [] t h
+
+  pub before-front : (t : ℕ) → t ≤ length b → before p (b ++ more) t ≡ before p b t
+  unfolding before
+  before-front zero h = refl
+  before-front (suc t) h = sample-front t h
+
+  pub view-front : (t : ℕ) (f : Bool) (k : ℕ) → t < length b → viewOf p (b ++ more) t f k ≡ viewOf p b t f k
+  view-front t f k h = rw (sample-front t h, before-front t (omega arith))
+
 module _ (p : Pattern) (b : Book) (d : ℕ) (vs : Sample) where
   -- the book with the piece
   abbrev pub longer : Book
@@ -24,18 +37,6 @@ module _ (p : Pattern) (b : Book) (d : ℕ) (vs : Sample) where
   -- ticks of the piece
   pub sample-new : (j : ℕ) → j < d → sampleAt longer (length b + j) ≡ vs
   sample-new j h = getD-append-add b (replicate d vs) j [] ∙ getD-replicate d j vs [] h
-
-  -- ticks before it
-  pub sample-old : (t : ℕ) → t < length b → sampleAt longer t ≡ sampleAt b t
-  sample-old t h = List·getD-append b (replicate d vs) [] t h
-
-  before-old : (t : ℕ) → t ≤ length b → before p longer t ≡ before p b t
-  unfolding before
-  before-old zero h = refl
-  before-old (suc t) h = sample-old t h
-
-  pub view-old : (t : ℕ) (f : Bool) (k : ℕ) → t < length b → viewOf p longer t f k ≡ viewOf p b t f k
-  view-old t f k h = rw (sample-old t h, before-old t (omega arith))
 
   -- the tick after one of the piece finds its values
   before-new : (j : ℕ) → j < d → before p longer (length b + suc j) ≡ vs
@@ -49,6 +50,6 @@ module _ (p : Pattern) (b : Book) (d : ℕ) (vs : Sample) where
   unfolding pieceView
   view-new zero f k h =
       let z : length b + 0 ≡ length b = omega arith in
-      rw (sample-new 0 h, z, before-old (length b) (omega arith))
+      rw (sample-new 0 h, z, before-front p b (replicate d vs) (length b) (omega arith))
   view-new (suc j) f k h =
       rw (sample-new (suc j) h, before-new j (omega arith), same-self vs)

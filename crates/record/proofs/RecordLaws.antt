@@ -47,6 +47,11 @@ one-before (suc i) n h = let e : suc i - 1 ≡ i = omega arith in rw (e, suc-mul
 pub sample-within : (i m n : ℕ) → i < m → i * n + n ≤ m * n
 sample-within i m n h = rw (← suc-mul i n) (mul-le-mul-right n h)
 
+-- the part of the values that is a piece's sample
+pub part-sample : (n i : ℕ) (vs : List ℤ) → take (i * n + n - i * n) (drop (i * n) vs) ≡ sampleAt n vs i
+unfolding sampleAt
+part-sample n i vs = let e : i * n + n - i * n ≡ n = omega arith in rw e
+
 -- ---- a sound record
 
 pub record Parts (n : ℕ) (ds : List ℕ) (vs : List ℤ) : Type 0 where

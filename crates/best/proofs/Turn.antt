@@ -1,0 +1,191 @@
+-- One turn of the code through a piece: some ticks more of a sound record.
+use Prim.Native.Nat.{ℕ, zero, suc, _+_, _-_, _*_, _≤_, _<_, min}
+use native.Mathlib.Omega.{arith}
+use mathlib.Core.Path.{_≡_, refl, sym, ap, subst, _∙_}
+use mathlib.Core.List.{List, _++_, map}
+use mathlib.Core.Option.{Option}
+use mathlib.Core.Bool.{true}
+use lib.ListN.{length, take, drop, getD, replicate, length-replicate, length-take, length-drop}
+use lib.Seq.{drop-at}
+use lib.IntN.{ℤ}
+use Rattle.weighting.specs.Cell.{mark, cellOf}
+use Rattle.pattern.specs.declared.Pattern.{Pattern}
+use Rattle.pattern.specs.Slots.{all}
+use Rattle.pattern.specs.Sound.{soundOf}
+use Rattle.pattern.specs.Clocks.{Clocks}
+use Rattle.pattern.specs.Cells.{cellsNeeded}
+use Rattle.pattern.specs.Distance.{Sample}
+use Rattle.record.specs.Record.{Book, sampleAt, total, valueInRange, recordSound, bookOf}
+use Rattle.record.proofs.ListLaws.{all-take, all-drop}
+use Rattle.record.proofs.RecordLaws.{parts, total-more, sample-within}
+use Rattle.walks.specs.Tables.{Table}
+use Rattle.book.specs.View as book
+use Rattle.monitor.specs.declared.State.{State}
+use Rattle.monitor.specs.Cells.{stateAt, written}
+use Rattle.monitor.specs.Open.{marks}
+use Rattle.monitor.specs.Feed.{Call, feedState, feedFirst, feedSecond, feedScores, feedLengths}
+use Rattle.monitor.proofs.Numbers.{made-rest}
+use Rattle.monitor.proofs.Written.{written-length, marks-length}
+use Rattle.monitor.proofs.Between.{Fine}
+use Rattle.best.specs.declared.Search.{Search}
+use Rattle.best.specs.Best.{Chosen, chosenTo}
+use Rattle.best.specs.Search.{tableTo, stateTo, chosenIn, chosenPast, chunkOf, SearchedTo, Fit}
+use Rattle.best.proofs.Choices.{past-is}
+use Rattle.best.proofs.Pieces.{fine-tick, front, rest, start, split, front-long, book-long, start-low}
+use Rattle.best.proofs.Chunk.{whole, state-after, first-after, second-after, score-after, length-after}
+
+-- ---- what is written twice
+
+pub written-again : (p : Pattern) (U W : Table ℤ Clocks) (t : List ℤ) → written p U (written p W t) ≡ written p U t
+unfolding written
+written-again p U W t = rw (made-rest (λ i. cellOf (W (stateAt p i))) (cellsNeeded p) (drop (cellsNeeded p) t))
+
+pub marks-again : (p : Pattern) (u : List ℤ) → marks p (marks p u) ≡ marks p u
+marks-again p u = ap (_++_ (replicate (cellsNeeded p) mark)) (drop-at (replicate (cellsNeeded p) mark) (drop (cellsNeeded p) u) (cellsNeeded p) (length-replicate (cellsNeeded p) mark))
+
+-- ---- a chunk
+
+-- what the code finds once it fed the chunk
+pub record Turned (p : Pattern) (B : Book) (q : State) (o : Option Chosen) (t u : List ℤ) (c : Call) (n : ℕ) : Type 0 where
+  pub state : feedState p q t u c ≡ stateTo p B (n + c .duration)
+  pub choice : chosenPast p o (q .ticks) (feedScores p q t u c) (feedLengths p q t u c) (c .duration) ≡ chosenTo p B (n + c .duration)
+  pub first : feedFirst p q t u c ≡ written p (tableTo p B (n + c .duration)) t
+  pub second : feedSecond p q t u c ≡ marks p u
+
+module _ (p : Pattern) (sound : soundOf p ≡ true) (b : Book) (c : Call) (after : Book) (value : Fine p (c .values))
+    (some-ticks : 1 ≤ c .duration) (short : c .duration ≤ 65535) (scores : c .duration ≤ length (c .scores)) (lengths : c .duration ≤ length (c .lengths))
+    (t u : List ℤ) (firstLong : cellsNeeded p ≤ length t) (secondLong : cellsNeeded p ≤ length u) (q : State) (o : Option Chosen) where
+  -- what holds of the book before the chunk, and what then holds after it
+  abbrev pub Step : Book → ℕ → Type 0
+  Step B n =
+      n + c .duration ≤ 2147483647 → ((i : ℕ) → i < n + c .duration → Fine p (book.sampleAt B i)) → q ≡ stateTo p B n → o ≡ chosenTo p B n
+      → t ≡ written p (tableTo p B n) t → Turned p B q o t u c n
+
+  base : Step (whole p sound b c after) (length b)
+  base few fine state chosen first =
+      let W = whole p sound b c after in
+      subst (λ (r : State). Turned p W r o t u c (length b)) (sym state)
+      (record {
+        state = state-after p sound b c after few fine value some-ticks short scores lengths t u firstLong secondLong first;
+        choice = past-is p W (length b) _ _ o (c .duration) chosen
+            (λ j l. (
+              score-after p sound b c after few fine value some-ticks short scores lengths t u firstLong secondLong first j l,
+              length-after p sound b c after few fine value some-ticks short scores lengths t u firstLong secondLong first j l,
+            ));
+        first = first-after p sound b c after few fine value some-ticks short scores lengths t u firstLong secondLong first;
+        second = second-after p sound b c after few fine value some-ticks short scores lengths t u firstLong secondLong first;
+      })
+
+  pub stepped : (B : Book) (n : ℕ) → whole p sound b c after ≡ B → length b ≡ n → Step B n
+  stepped B n is long = subst (Step B) long (subst (λ (w : Book). Step w (length b)) is base)
+
+-- ---- a piece of a record
+
+module _ (p : Pattern) (sound : soundOf p ≡ true) (ds : List ℕ) (vs : List ℤ) (fits : recordSound (p .channels) ds vs ≡ true) where
+  abbrev B : Book
+  B = bookOf (p .channels) ds vs
+
+  fine : (i : ℕ) → i < total ds → Fine p (book.sampleAt B i)
+  unfolding bookOf
+  fine = let k = parts (p .channels) ds vs fits in fine-tick (p .channels) ds vs (k .agree) (k .values)
+
+  module _ (i gone d : ℕ) (inside : i < length ds) (room : gone + d ≤ getD ds i 0) (some-ticks : 1 ≤ d) (few : d ≤ 64) where
+    abbrev n : ℕ
+    n = total (take i ds) + gone
+
+    within : n + d ≤ total ds
+    within =
+        let a = total-more ds i inside in
+        let l = start-low p (p .channels) ds vs (i + 1) in
+        omega arith
+
+    sample-fine : Fine p (sampleAt (p .channels) vs i)
+    unfolding sampleAt
+    sample-fine =
+        let k = parts (p .channels) ds vs fits in
+        let g = k .agree in
+        let w = sample-within i (length ds) (p .channels) inside in
+        let a = length-take (p .channels) (drop (i * p .channels) vs) in
+        let b = length-drop (i * p .channels) vs in
+        (omega arith, all-take valueInRange (p .channels) (drop (i * p .channels) vs) (all-drop valueInRange (i * p .channels) vs (k .values)))
+
+    pub fed : (q : State) (o : Option Chosen) (t u : List ℤ) → cellsNeeded p ≤ length t → cellsNeeded p ≤ length u
+        → q ≡ stateTo p B n → o ≡ chosenTo p B n → t ≡ written p (tableTo p B n) t → Turned p B q o t u (chunkOf d (sampleAt (p .channels) vs i)) n
+    fed q o t u firstLong secondLong state chosen first =
+        stepped p sound (front p (p .channels) ds vs i gone) (chunkOf d (sampleAt (p .channels) vs i)) (rest p (p .channels) ds vs i (gone + d)) sample-fine
+        some-ticks (omega arith) few few t u firstLong secondLong q o B n
+        (split p (p .channels) ds vs i gone d inside room) (front-long p (p .channels) ds vs i gone)
+        (let k = parts (p .channels) ds vs fits .short in let w = within in omega arith)
+        (λ j l. fine j (let w = within in omega arith)) state chosen first
+
+  -- a turn of the loop: `left` ticks of the piece are left, and d more are fed
+  module _ (i left d : ℕ) (inside : i < length ds) (low : left ≤ getD ds i 0) (more : 0 < left) (is : d ≡ min left 64)
+      (s : Search) (t t₀ u u₀ : List ℤ) (firstLong : cellsNeeded p ≤ length t₀) (secondLong : cellsNeeded p ≤ length u₀) where
+    abbrev at : ℕ → ℕ
+    at k = total (take i ds) + (getD ds i 0 - k)
+
+    abbrev c : Call
+    c = chunkOf d (sampleAt (p .channels) vs i)
+
+    module _ (searched : SearchedTo p B (at left) s) (first : t ≡ written p (tableTo p B (at left)) t₀) (second : u ≡ marks p u₀) where
+      long-first : length t ≡ length t₀
+      long-first = ap length first ∙ written-length p sound (tableTo p B (at left)) t₀ firstLong
+
+      long-second : length u ≡ length u₀
+      long-second = ap length second ∙ marks-length p sound u₀ secondLong
+
+      turned : Turned p B (s .state) (chosenIn (s .choice)) t u c (at left)
+      turned =
+          fed i (getD ds i 0 - left) d inside (omega arith) (omega arith) (omega arith) (s .state) (chosenIn (s .choice)) t u
+          (let e = long-first in omega arith) (let e = long-second in omega arith) (searched .0) (searched .1)
+          (first ∙ sym (written-again p (tableTo p B (at left)) (tableTo p B (at left)) t₀) ∙ ap (written p (tableTo p B (at left))) (sym first))
+
+      on : at left + d ≡ at (left - d)
+      on = omega arith
+
+      state-on : feedState p (s .state) t u c ≡ stateTo p B (at (left - d))
+      state-on = turned .state ∙ ap (stateTo p B) on
+
+      choice-on : chosenPast p (chosenIn (s .choice)) (s .state .ticks) (feedScores p (s .state) t u c) (feedLengths p (s .state) t u c) d ≡ chosenTo p B (at (left - d))
+      choice-on = turned .choice ∙ ap (chosenTo p B) on
+
+      first-on : feedFirst p (s .state) t u c ≡ written p (tableTo p B (at (left - d))) t₀
+      first-on =
+          turned .first ∙ ap (written p (tableTo p B (at left + d))) first
+          ∙ written-again p (tableTo p B (at left + d)) (tableTo p B (at left)) t₀
+          ∙ ap (λ (n : ℕ). written p (tableTo p B n) t₀) on
+
+      second-on : feedSecond p (s .state) t u c ≡ marks p u₀
+      second-on = turned .second ∙ ap (marks p) second ∙ marks-again p u₀
+
+      -- what the turn finds
+      pub onward :
+          ((feedState p (s .state) t u c ≡ stateTo p B (at (left - d)))
+          × (chosenPast p (chosenIn (s .choice)) (s .state .ticks) (feedScores p (s .state) t u c) (feedLengths p (s .state) t u c) d ≡ chosenTo p B (at (left - d))))
+          × (feedFirst p (s .state) t u c ≡ written p (tableTo p B (at (left - d))) t₀) × (feedSecond p (s .state) t u c ≡ marks p u₀)
+      onward = ((state-on, choice-on), first-on, second-on)
+
+      pub room-on : s .state .ticks + d ≤ 2147483647
+      room-on =
+          let e = ap (λ (q : State). q .ticks) (searched .0) in
+          let a = total-more ds i inside in
+          let l = start-low p (p .channels) ds vs (i + 1) in
+          let k = parts (p .channels) ds vs fits .short in
+          omega arith
+
+-- ---- from piece to piece
+
+module _ (p : Pattern) (ds : List ℕ) (vs : List ℤ) (i j : ℕ) (s r : Search) (t t′ u u′ : List ℤ) (k : Fit p ds vs i s t u) where
+  pub fit-on : SearchedTo p (bookOf (p .channels) ds vs) (total (take j ds)) r → t′ ≡ written p (tableTo p (bookOf (p .channels) ds vs) (total (take j ds))) t → u′ ≡ marks p u
+      → Fit p ds vs j r t′ u′
+  fit-on searched first second =
+      let U = tableTo p (bookOf (p .channels) ds vs) (total (take j ds)) in
+      record {
+        sound = k .sound;
+        fits = k .fits;
+        searched = searched;
+        firstLong = let e = ap length first ∙ written-length p (k .sound) U t (k .firstLong) in let l = k .firstLong in omega arith;
+        secondLong = let e = ap length second ∙ marks-length p (k .sound) u (k .secondLong) in let l = k .secondLong in omega arith;
+        first = first ∙ sym (written-again p U U t) ∙ ap (written p U) (sym first);
+        second = second ∙ sym (marks-again p u) ∙ ap (marks p) (sym second);
+      }

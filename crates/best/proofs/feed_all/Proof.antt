@@ -1,0 +1,80 @@
+-- Piece by piece.
+use Prim.Native.Nat.{ℕ, _+_, _-_, _≤_, _<_}
+use native.Mathlib.Omega.{arith}
+use mathlib.Core.Path.{_≡_, refl, sym, ap, subst, _∙_}
+use borrow.Author.Needs.{needs}
+use lib.ListN.{length, take}
+use lib.Seq.{take-all}
+use Rattle.record.specs.Record.{total, bookOf}
+use Rattle.monitor.specs.Cells.{written}
+use Rattle.monitor.specs.Open.{marks}
+use Rattle.monitor.proofs.Written.{written-length, marks-length}
+use Rattle.best.specs.Search.{tableTo, SearchedTo, Fit}
+use Rattle.best.proofs.Turn.{written-again, marks-again, fit-on}
+use Rattle.best.proofs.feed_all.Statement.{statement}
+use Rattle.best.proofs.feed_all.Tie as tie
+
+abbrev Inv-loop : tie.InvT-loop
+Inv-loop p durations values first₀ second₀ search₀ i₀ first second search i =
+    (i ≤ length durations) × Fit p durations values i search first second
+    × (first ≡ written p (tableTo p (bookOf (p .channels) durations values) (total (take i durations))) first₀) × (second ≡ marks p second₀)
+
+abbrev μ-loop : tie.MeasureT-loop
+μ-loop p durations values first₀ second₀ search₀ i₀ first second search i = length durations - i
+
+loop-holds : tie.Need-loop-holds Inv-loop μ-loop
+loop-holds c = let k = c .before .pre in (omega arith, k, k .first, k .second)
+
+feed-whole-requires : tie.Need-feed-whole-requires Inv-loop μ-loop
+feed-whole-requires c κs = let l = c .before .before .before .loop in (l .inv .1, omega arith)
+
+add-i : tie.Need-add-i Inv-loop μ-loop
+add-i c = omega arith
+
+loop-less : tie.Need-loop-less Inv-loop μ-loop
+loop-less c = omega arith
+
+loop-again : tie.Need-loop-again Inv-loop μ-loop
+loop-again c =
+    let a = c .before .before .before .before .before .before .before .before .args in
+    let l = c .before .before .before .before .before .before .loop in
+    let o = c .before .before .feed-whole .ensures in
+    let U = tableTo (a .p) (bookOf (a .p .channels) (a .durations .now) (a .values .now)) (total (take (l .i + 1) (a .durations .now))) in (
+      omega arith,
+      fit-on (a .p) (a .durations .now) (a .values .now) (l .i) (l .i + 1) (l .search) (c .before .before .feed-whole .result) (l .first) _ (l .second) _ (l .inv .1) (o .0) (o .1 .0) (o .1 .1),
+      o .1 .0 ∙ ap (written (a .p) U) (l .inv .2) ∙ written-again (a .p) U _ (a .first .now),
+      o .1 .1 ∙ ap (marks (a .p)) (l .inv .3) ∙ marks-again (a .p) (a .second .now),
+    )
+
+same-length : tie.Need-same-length Inv-loop μ-loop
+same-length c =
+    let st = c .before .before .before in
+    ap length (c .before .loop .inv .2) ∙ written-length (st .args .p) (st .pre .sound) _ (st .args .first .now) (st .pre .firstLong)
+
+same-length-2 : tie.Need-same-length-2 Inv-loop μ-loop
+same-length-2 c =
+    let st = c .before .before .before in
+    ap length (c .before .loop .inv .3) ∙ marks-length (st .args .p) (st .pre .sound) (st .args .second .now) (st .pre .secondLong)
+
+returns : tie.Need-returns Inv-loop μ-loop
+returns c =
+    let a = c .before .before .before .args in
+    let l = c .before .loop in
+    let B = bookOf (a .p .channels) (a .durations .now) (a .values .now) in
+    let e : total (take (l .i) (a .durations .now)) ≡ total (a .durations .now) = ap total (take-all (l .i) (a .durations .now) (omega arith)) in
+    (subst (λ (n : ℕ). SearchedTo (a .p) B n (l .search)) e (l .inv .1 .searched), (l .inv .2 ∙ ap (λ (n : ℕ). written (a .p) (tableTo (a .p) B n) (a .first .now)) e, l .inv .3))
+
+pub feed-all-spec : {M : Type 1} → statement M
+feed-all-spec =
+    tie.close
+    (tie.spec
+    Inv-loop
+    μ-loop
+    loop-holds
+    feed-whole-requires
+    add-i
+    loop-less
+    loop-again
+    same-length
+    same-length-2
+    returns)
