@@ -3,4 +3,3 @@ pub mod Members
 pub mod Ceilings
 pub mod StayGains
 pub mod Runs
-pub mod SameClocks

@@ -1,13 +1,15 @@
--- A pattern as an automaton, and its clocks held at their ceilings.
+-- A pattern as an automaton, the test of its clocks, and its clocks held at their ceilings.
 use Prim.Native.Nat.{ℕ, _-_, min}
 use mathlib.Core.List.{List, [], _∷_, map, zipWith}
+use Rattle.integers.specs.Equal.{sameNumbers}
+use Rattle.integers.proofs.Equal.{numbers-eq, numbers-self}
 use Rattle.pattern.specs.declared.Edge.{Edge}
 use Rattle.pattern.specs.declared.Pattern.{Pattern}
 use Rattle.pattern.specs.InUse.{placeAt, edgesOf}
 use Rattle.pattern.specs.Kinds as kinds
 use Rattle.pattern.specs.Clocks.{Clocks, zeroClocks, later, guardsHold, afterResets}
 use Rattle.pattern.specs.Cells.{radixOf}
-use Rattle.walks.specs.Automaton.{Automaton}
+use Rattle.walks.specs.Automaton.{Automaton, Same}
 
 -- The pattern's places by number, its edges in use, and its clocks without any ceiling.
 abbrev pub automatonOf : Pattern → Automaton Clocks Edge
@@ -23,6 +25,10 @@ automatonOf p =
       holds = λ e cs. guardsHold cs e;
       reset = afterResets;
     }
+
+-- The test whether all clocks have the same values.
+abbrev pub sameClocks : Same Clocks
+sameClocks = record { same = sameNumbers; same-eq = numbers-eq; same-self = numbers-self }
 
 -- The ceilings of four clocks: a radix counts from 0 to the ceiling. A clock that the pattern lacks has ceiling 0.
 abbrev pub ceilings : Pattern → List ℕ

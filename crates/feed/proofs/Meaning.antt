@@ -35,9 +35,9 @@ use Rattle.walks.specs.Automaton.{State as Place′, TickView}
 use Rattle.walks.specs.Tables.{Table, next}
 use Rattle.walks.proofs.Cut.{only-cells}
 use Rattle.walks.proofs.Rows.{reports-only-cells}
+use Rattle.book.specs.Automaton.{sameClocks}
 use Rattle.book.specs.View.{counts, gainIn, tickView}
 use Rattle.book.proofs.Members.{all-member, at-member}
-use Rattle.book.proofs.SameClocks.{sameClocks}
 use Rattle.cells.specs.declared.Layout.{Layout}
 use Rattle.cells.specs.Layout.{layoutOf, cellsIn, Laid}
 use Rattle.cells.specs.Index.{blockAt}

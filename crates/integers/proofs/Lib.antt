@@ -6,5 +6,6 @@ pub mod Order
 pub mod Equal
 pub mod Least
 pub mod Sums
+pub mod Lexicographic
 pub mod Ranges
 pub mod Casts

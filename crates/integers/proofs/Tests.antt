@@ -1,6 +1,6 @@
--- What a Bool test's outcome says: as an equation, under `T`, and of a choice by it.
+-- What a Bool test's outcome says: as an equation, under `T`, of two tests together, and of a choice by it.
 use mathlib.Core.Path.{_≡_, refl}
-use mathlib.Core.Bool.{Bool, true, false, not, cond}
+use mathlib.Core.Bool.{Bool, true, false, not, cond, _&&_}
 use lib.Dec.{T}
 
 -- it is what it cannot fail to be
@@ -26,6 +26,19 @@ true-T t e = rw e tt
 
 pub false-T : (t : Bool) → t ≡ false → T (not t)
 false-T t e = rw e tt
+
+-- two tests together
+pub and-l : (a b : Bool) → T (a && b) → T a
+and-l true b h = tt
+and-l false b h = h
+
+pub and-r : (a b : Bool) → T (a && b) → T b
+and-r true b h = h
+and-r false b h = absurd h
+
+pub and-in : (a b : Bool) → T a → T b → T (a && b)
+and-in true b p q = q
+and-in false b p q = p
 
 -- what holds of both choices, each under its outcome, holds of the choice
 pub by-cond : {A : Type 0} (P : A → Type 0) (t : Bool) (x y : A) → (T t → P x) → (T (not t) → P y) → P (cond t x y)

@@ -31,7 +31,7 @@ use Rattle.walks.specs.Automaton.{State as Place, View}
 use Rattle.walks.specs.Tables.{Table, tableAt}
 use Rattle.walks.proofs.Cut.{cut, only-passed, only-cells}
 use Rattle.book.specs.View.{sampleAt, before, viewOf}
-use Rattle.book.proofs.SameClocks.{sameClocks}
+use Rattle.book.specs.Automaton.{sameClocks}
 use Rattle.monitor.specs.declared.State.{State}
 use Rattle.monitor.specs.Cells.{cellStates, heldBy, written}
 use Rattle.monitor.specs.Tick.{heldAutomaton, openTable, ticksLater}

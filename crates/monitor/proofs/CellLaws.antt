@@ -25,9 +25,8 @@ use Rattle.walks.specs.Automaton.{State, entering, stayed, taken, sameState}
 use Rattle.walks.specs.Walks.{Move, stays, takes}
 use Rattle.walks.specs.Tables.{Closed}
 use Rattle.walks.proofs.States as states
-use Rattle.book.specs.Automaton.{automatonOf, ceilings, held}
+use Rattle.book.specs.Automaton.{automatonOf, ceilings, held, sameClocks}
 use Rattle.book.proofs.Members.{all-member, at-member}
-use Rattle.book.proofs.SameClocks.{sameClocks}
 use Rattle.cells.specs.declared.Layout.{Layout}
 use Rattle.cells.specs.Layout.{layoutOf, Laid, cellsIn}
 use Rattle.cells.specs.Index as cell

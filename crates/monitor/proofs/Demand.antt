@@ -23,10 +23,9 @@ use Rattle.record.specs.Record.{Book}
 use Rattle.walks.specs.Reports.{Wanted, Reported, reportAt}
 use Rattle.walks.proofs.Rows.{reports-only-cells}
 use Rattle.walks.proofs.ReportsBest.{reports-say}
-use Rattle.book.specs.Automaton.{automatonOf, held}
+use Rattle.book.specs.Automaton.{automatonOf, held, sameClocks}
 use Rattle.book.specs.View.{sampleAt, before, viewOf}
 use Rattle.book.specs.Claims.{Priced}
-use Rattle.book.proofs.SameClocks.{sameClocks}
 use Rattle.book.proofs.Ceilings.{ceilings-hold}
 use Rattle.book.proofs.StayGains.{gains-are-worths}
 use Rattle.book.proofs.Runs.{priced-are-runs}
@@ -139,7 +138,7 @@ module _ (p : Pattern) (b : Book) (s : State) (t u : List ℤ) (h : Between p b 
       by none e = accepted e
       by (some r) e = rejected r e
 
-  after : Between p (bookAfter p b c) (feedState p s t u c) (feedFirst p s t u c) (feedSecond p s t u c)
+  pub after : Between p (bookAfter p b c) (feedState p s t u c) (feedFirst p s t u c) (feedSecond p s t u c)
   after = by (refusalBy p b c) refl
     where
       by : (o : Option Refusal) → refusalBy p b c ≡ o → Between p (bookAfter p b c) (feedState p s t u c) (feedFirst p s t u c) (feedSecond p s t u c)
@@ -180,7 +179,7 @@ fresh p t u k =
       holds = λ x m. held-written p (k .0) (openTable p) t x (of-cells p (k .0) x m) (cell-no-mark p (k .0) [] none-there 0 x m);
     }
 
-opened : (p : Pattern) (s : State) (t u : List ℤ) → openRefusal p (length t) (length u) ≡ none → Between p [] (openState p t u s) (openFirst p t u) (openSecond p t u)
+pub opened : (p : Pattern) (s : State) (t u : List ℤ) → openRefusal p (length t) (length u) ≡ none → Between p [] (openState p t u s) (openFirst p t u) (openSecond p t u)
 opened p s t u e = rw e (fresh p t u (open-parts p (length t) (length u) e))
 
 pub demand3 : Demand3

@@ -12,7 +12,7 @@ use Rattle.pattern.specs.Clocks.{Clocks}
 use Rattle.pattern.specs.Cells.{cellsNeeded}
 use Rattle.walks.specs.Automaton.{State, sameState}
 use Rattle.walks.specs.Tables.{Table}
-use Rattle.book.proofs.SameClocks.{sameClocks}
+use Rattle.book.specs.Automaton.{sameClocks}
 use Rattle.cells.specs.declared.Layout.{Layout}
 use Rattle.cells.specs.Layout.{layoutOf}
 use Rattle.cells.specs.Index as cell

@@ -10,8 +10,7 @@ use Rattle.walks.specs.Automaton.{Automaton, View}
 use Rattle.walks.specs.Holding.{heldAt}
 use Rattle.walks.specs.Tables.{Table, opening, tableAt}
 use Rattle.walks.specs.Reports.{report}
-use Rattle.book.specs.Automaton.{automatonOf, held}
-use Rattle.book.proofs.SameClocks.{sameClocks}
+use Rattle.book.specs.Automaton.{automatonOf, held, sameClocks}
 use Rattle.monitor.specs.Cells.{cellStates}
 
 -- The pattern's automaton with its clocks held at their ceilings.

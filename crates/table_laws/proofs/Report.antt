@@ -20,7 +20,8 @@ use Rattle.weighting.specs.Weightings.{weightingOf}
 use Rattle.weighting.specs.Shortest.{shortestTest}
 use Rattle.weighting.specs.Cell.{mark, heldIn}
 use Rattle.weighting.proofs.Best.{IsBest-iff, IsBest-same, bestOf-best}
-use Rattle.weighting.proofs.Shortest.{shortest, shortest-in, shortest-out, shortest-equal}
+use Rattle.weighting.specs.Shortest.{shortest}
+use Rattle.weighting.proofs.Shortest.{shortest-in, shortest-out, shortest-equal}
 use Rattle.weighting.proofs.Cell.{above-mark}
 use Rattle.pattern.specs.declared.Edge.{Edge}
 use Rattle.pattern.specs.Clocks.{Clocks}

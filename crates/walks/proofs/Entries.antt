@@ -9,7 +9,8 @@ use lib.Dec.{T}
 use Rattle.weighting.specs.Order.{IsBest}
 use Rattle.weighting.specs.Weighting.{Weighting}
 use Rattle.weighting.proofs.Best.{IsBest-more, bestOf-best}
-use Rattle.weighting.proofs.Shortest.{shortest, shortest-in}
+use Rattle.weighting.specs.Shortest.{shortest}
+use Rattle.weighting.proofs.Shortest.{shortest-in}
 use Rattle.walks.specs.Automaton.{Automaton, View, State, Same}
 use Rattle.walks.specs.Walks.{Reach}
 use Rattle.walks.specs.Tables.{Table, tableAt, Closed, Within}

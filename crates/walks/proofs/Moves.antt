@@ -4,10 +4,11 @@ use mathlib.Core.Logic.{⊎-elim}
 use mathlib.Core.List.{List, [], _∷_, List·Memᴰ, List·Memᴰ·head, List·Memᴰ·tail, List·Memᴰ·cases-cons, List·Memᴰ·not-nil}
 use Prim.Native.Nat.{ℕ, suc, _<_}
 use lib.Dec.{T, eqb, eqb→eq, eqb-refl, ltb, ltb→lt, lt→ltb}
+use Rattle.integers.proofs.Tests.{and-l, and-r, and-in}
 use Rattle.walks.specs.Automaton.{Automaton, State, stayed, taken}
 use Rattle.walks.specs.Walks.{Takes, Move, stays, takes}
 use Rattle.walks.specs.Tables.{canTake, along, movesFrom}
-use Rattle.walks.proofs.Tests.{and-l, and-r, and-in, of-cond-cons, cond-head, cond-tail, of-cond, in-cond}
+use Rattle.walks.proofs.Tests.{of-cond-cons, cond-head, cond-tail, of-cond, in-cond}
 
 module _ {C E : Type 0} (A : Automaton C E) (s : State C) where
   of-along : {x : State C} (es : List E) → List·Memᴰ x (along A s es) → (e : E) × List·Memᴰ e es × T (canTake A s e) × (x ≡ taken A e s)

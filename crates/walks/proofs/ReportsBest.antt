@@ -6,24 +6,24 @@ use mathlib.Core.List.{List, List·Memᴰ}
 use Prim.Native.Nat.{ℕ, _≤_}
 use native.Mathlib.Omega.{arith}
 use lib.Dec.{T, leb, leb→le, le→leb}
-use Rattle.integers.proofs.Tests.{T-true}
+use Rattle.integers.proofs.Tests.{T-true, and-l, and-r, and-in}
 use Rattle.weighting.specs.Order.{IsBest}
 use Rattle.weighting.specs.Weighting.{Weighting}
+use Rattle.weighting.specs.Shortest.{shortest}
 use Rattle.weighting.proofs.Best.{IsBest-iff}
-use Rattle.weighting.proofs.Shortest.{shortest, shortest-out}
+use Rattle.weighting.proofs.Shortest.{shortest-out}
 use Rattle.walks.specs.Automaton.{Automaton, View, State, Same}
 use Rattle.walks.specs.Holding.{Holding, heldAt}
 use Rattle.walks.specs.Tables.{opening, Closed, Within}
 use Rattle.walks.specs.Reports.{ending, reportAt, Wanted, Reported}
 use Rattle.walks.specs.Claims.{Worthy, ReportsBest, ReportsSay}
-use Rattle.walks.proofs.Tests.{and-l, and-r, and-in}
 use Rattle.walks.proofs.States.{opening-holds}
 use Rattle.walks.proofs.TableBest.{reach-in}
 use Rattle.walks.proofs.RunsAreWalks.{runs-are-held-walks}
 use Rattle.walks.proofs.Entries.{Ends, report-best}
 
 -- the opening table has nothing outside the cells
-opening-within : {W C E : Type 0} (𝓦 : Weighting W) (A : Automaton C E) (Q : Same C) (high : ℕ) (all : List (State C)) → Closed A high all → Within all (opening 𝓦 A Q)
+pub opening-within : {W C E : Type 0} (𝓦 : Weighting W) (A : Automaton C E) (Q : Same C) (high : ℕ) (all : List (State C)) → Closed A high all → Within all (opening 𝓦 A Q)
 opening-within {C = C} 𝓦 A Q high all closed s w e =
     let k = opening-holds 𝓦 A Q s w e in
     subst (λ (y : State C). List·Memᴰ y all) (sym (k .1)) (closed .begins-in (s .place) (k .0))

@@ -9,7 +9,7 @@ use lib.Dec.{T, eqb, eqb→eq, eqb-refl}
 use Rattle.integers.proofs.Tests.{true-T}
 use Rattle.weighting.specs.Order.{bestOf}
 use Rattle.weighting.specs.Weighting.{Weighting}
-use Rattle.weighting.proofs.Shortest.{shortest}
+use Rattle.weighting.specs.Shortest.{shortest}
 use Rattle.walks.specs.Automaton.{Automaton, TickView, State, Same, sameState}
 use Rattle.walks.specs.Tables.{Table, movesFrom, grown, offer, offers, offeredTo, next}
 use Rattle.walks.specs.Reports.{ending, entry, entries, report}

@@ -4,11 +4,11 @@ use mathlib.Core.Bool.{Bool, true, false, cond, _&&_}
 use mathlib.Core.Option.{none, some, Option·some-injective, Option·none-ne-some}
 use Prim.Native.Nat.{ℕ}
 use lib.Dec.{T, eqb→eq, eqb-refl}
-use Rattle.integers.proofs.Tests.{T-true}
+use Rattle.integers.proofs.Tests.{T-true, and-l, and-r, and-in}
 use Rattle.weighting.specs.Weighting.{Weighting}
 use Rattle.walks.specs.Automaton.{Automaton, State, entering, Same, sameState}
 use Rattle.walks.specs.Tables.{opening}
-use Rattle.walks.proofs.Tests.{and-l, and-r, and-in, beq-eq, beq-self}
+use Rattle.walks.proofs.Tests.{beq-eq, beq-self}
 
 pub same-eq : {C : Type 0} (Q : Same C) (s x : State C) → T (sameState Q s x) → s ≡ x
 unfolding sameState

@@ -8,7 +8,7 @@ use Prim.Native.Nat.{ℕ, suc, _+_, _≤_, _<_}
 use lib.Dec.{T}
 use Rattle.weighting.specs.Order.{IsBest}
 use Rattle.weighting.specs.Weighting.{Weighting}
-use Rattle.weighting.proofs.Shortest.{shortest}
+use Rattle.weighting.specs.Shortest.{shortest}
 use Rattle.walks.specs.Automaton.{Automaton, TickView, View, State, Same}
 use Rattle.walks.specs.Walks.{Reach}
 use Rattle.walks.specs.Runs.{Run}

@@ -7,7 +7,7 @@ use Prim.Native.Nat.{ℕ, _≤_}
 use lib.Dec.{T, leb}
 use Rattle.weighting.specs.Order.{bestOf}
 use Rattle.weighting.specs.Weighting.{Weighting}
-use Rattle.weighting.proofs.Shortest.{shortest}
+use Rattle.weighting.specs.Shortest.{shortest}
 use Rattle.walks.specs.Automaton.{Automaton, View, State, Same}
 use Rattle.walks.specs.Runs.{Run}
 use Rattle.walks.specs.Tables.{Table, opening, tableAt}
