@@ -39,7 +39,7 @@ and-in false b p q = p
 
 -- ---- clocks: n ticks one by one are n ticks at once
 
-add-zeros : (cs : Clocks) → map (λ c. c + 0) cs ≡ cs
+pub add-zeros : (cs : Clocks) → map (λ c. c + 0) cs ≡ cs
 add-zeros [] = refl
 add-zeros (c ∷ cs) = let e : c + 0 ≡ c = omega arith in rw (e, add-zeros cs)
 
@@ -53,7 +53,7 @@ after-later p (suc n) cs = after-later p n (later 1 cs) ∙ add-more n cs
 
 module _ (p : Pattern) (sound : soundOf p ≡ true) where
   -- a step by its edge's number, as a step by its edge
-  abbrev plain : Step → walk.Step Edge
+  abbrev pub plain : Step → walk.Step Edge
   plain x = record { edge = edgeAt p (x .edge); stay = x .stay }
 
   edges-length : length (edgesOf p) ≡ p .edgecount
@@ -69,7 +69,7 @@ module _ (p : Pattern) (sound : soundOf p ≡ true) where
 
   -- ---- from numbers to edges
 
-  leg : (k : ℕ) (cs : Clocks) (x : Step) → canStep p k cs x ≡ true → Leg (automatonOf p) k cs (plain x)
+  pub leg : (k : ℕ) (cs : Clocks) (x : Step) → canStep p k cs x ≡ true → Leg (automatonOf p) k cs (plain x)
   unfolding canStep
   leg k cs x h =
       let a = both _ _ h in
@@ -117,7 +117,7 @@ module _ (p : Pattern) (sound : soundOf p ≡ true) where
   can k cs i n known fits stays guarded =
       and-in _ _ (and-in _ _ (and-in _ _ (lt-ltb _ _ known) (eq-eqb _ _ fits)) (le-leb _ _ stays)) (T-true _ guarded)
 
-  step-of : (k : ℕ) (cs : Clocks) (y : walk.Step Edge) → Leg (automatonOf p) k cs y → (x : Step) × (plain x ≡ y) × (canStep p k cs x ≡ true)
+  pub step-of : (k : ℕ) (cs : Clocks) (y : walk.Step Edge) → Leg (automatonOf p) k cs y → (x : Step) × (plain x ≡ y) × (canStep p k cs x ≡ true)
   step-of k cs y l =
       let r = member-at (edgesOf p) (y .edge) noEdge (l .known) in
       let i : r .0 < p .edgecount = let q : r .0 < length (edgesOf p) = r .1 in let e = edges-length in omega arith in

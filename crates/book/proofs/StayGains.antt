@@ -38,10 +38,14 @@ unfolding combineFrom
 margin-low a [] = le-self a
 margin-low a (d ∷ l) = le-through (combineFrom margin (minZ a d) l) (minZ a d) a (margin-low (minZ a d) l) (min-left a d)
 
+-- worths together are a worth
+pub all-worth : (w : Weighing) (l : List ℤ) → T (weightingOf w .worth (combineAll (weightingOf w) l))
+all-worth Margin l = margin-low (pos 2_000_001) l
+all-worth Sum l = tt
+
 place-worth-worth : (w : Weighing) (l : Place) (s : Sample) → T (weightingOf w .worth (placeWorth w l s))
 unfolding placeWorth
-place-worth-worth Margin l s = margin-low (pos 2_000_001) (distancesOf l s)
-place-worth-worth Sum l s = tt
+place-worth-worth w l s = all-worth w (distancesOf l s)
 
 gain-worth : (w : Weighing) (l : Place) (s : Sample) (t : Bool) → T (weightingOf w .worth (cond t (placeWorth w l s) (weightingOf w .unit)))
 gain-worth w l s true = place-worth-worth w l s

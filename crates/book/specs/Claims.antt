@@ -1,5 +1,5 @@
 -- What is proved: on a book, runs as document 01 prices them are the runs of the pattern's automaton, with the same worth,
--- begin and length; and holding the clocks at their ceilings changes no run.
+-- begin and length; unfinished runs are what it reaches; and holding the clocks at their ceilings changes no run.
 use Prim.Native.Nat.{ℕ, _+_, _≤_}
 use mathlib.Core.Path.{_≡_}
 use mathlib.Core.Bool.{true}
@@ -11,14 +11,21 @@ use lib.IntN.{ℤ}
 use Rattle.weighting.specs.Weightings.{weightingOf}
 use Rattle.pattern.specs.declared.Pattern.{Pattern}
 use Rattle.pattern.specs.Sound.{soundOf}
+use Rattle.pattern.specs.InUse.{placeAt}
+use Rattle.pattern.specs.Kinds.{isEnd}
+use Rattle.pattern.specs.Clocks.{Clocks}
 use Rattle.record.specs.Record.{Book}
 use Rattle.record.specs.Run.{Step, lengthOf}
 use Rattle.record.specs.Worth.{priceOf}
+use Rattle.walks.specs.Automaton.{State}
+use Rattle.walks.specs.Walks.{Reach}
 use Rattle.walks.specs.Runs.{Run}
 use Rattle.walks.specs.Holding.{Holding}
+use Rattle.walks.specs.Tables.{opening}
 use Rattle.walks.specs.Claims.{Worthy}
-use Rattle.book.specs.Automaton.{automatonOf, held}
+use Rattle.book.specs.Automaton.{automatonOf, sameClocks, held}
 use Rattle.book.specs.View.{viewOf}
+use Rattle.book.specs.Unfinished.{Unfinished}
 
 -- Steps that are a run from begin to end in the book, of this length and worth.
 pub record Priced (p : Pattern) (b : Book) (begin end len : ℕ) (w : ℤ) : Type 0 where
@@ -31,6 +38,20 @@ abbrev pub PricedAreRuns : Type 0
 PricedAreRuns =
     (p : Pattern) → soundOf p ≡ true → (b : Book) (begin end len : ℕ) (w : ℤ) → end ≤ length b
     → Priced p b begin end len w ↔ Run (weightingOf (p .weighing)) (automatonOf p) (viewOf p b) begin end len w
+
+-- Unfinished runs of up to `high` ticks are what the automaton reaches, its clocks without any ceiling.
+abbrev pub UnfinishedAreReached : Type 0
+UnfinishedAreReached =
+    (p : Pattern) → soundOf p ≡ true → (b : Book) (high now : ℕ) (s : State Clocks) (w : ℤ) → now ≤ length b → s .len ≤ high
+    → Unfinished p b now s w
+    ↔ Reach (weightingOf (p .weighing)) (automatonOf p) (viewOf p b) high (opening (weightingOf (p .weighing)) (automatonOf p) sameClocks) now s w
+
+-- A run that is priced is an unfinished one that has just entered an end place, of the same worth, and the other way round.
+abbrev pub RunsWereUnfinished : Type 0
+RunsWereUnfinished =
+    (p : Pattern) → soundOf p ≡ true → (b : Book) (end len : ℕ) (w : ℤ) → end ≤ length b → 1 ≤ len
+    → ((begin : ℕ) × Priced p b begin end len w)
+    ↔ ((s : State Clocks) × (s .len ≡ len) × (s .entered ≡ true) × (isEnd (placeAt p (s .place) .kind) ≡ true) × Unfinished p b end s w)
 
 abbrev pub GainsAreWorths : Type 0
 GainsAreWorths = (p : Pattern) (b : Book) → Worthy (weightingOf (p .weighing)) (viewOf p b)

@@ -1,13 +1,14 @@
 -- A run's worth is the worth of all its ticks' gains together, however they are laid out in stays.
 use mathlib.Core.Path.{_≡_, refl, sym, ap, subst, _∙_}
-use mathlib.Core.Bool.{Bool, true, false}
+use mathlib.Core.Bool.{Bool, true, false, cond}
 use mathlib.Core.Option.{Option, none, some, Option·map, Option·some-injective, Option·none-ne-some}
 use mathlib.Core.Logic.{⊎-elim}
 use mathlib.Core.List.{List, [], _∷_, _++_, List·Memᴰ·cases-cons, List·Memᴰ·not-nil}
 use Prim.Native.Nat.{ℕ, zero, suc, _+_}
 use native.Mathlib.Omega.{arith}
 use native.Mathlib.Numerals.{add-one}
-use lib.Dec.{T}
+use borrow.Author.Tests.{ne-eqb}
+use lib.Dec.{T, eqb}
 use Rattle.weighting.specs.Weighting.{Weighting, combineAll}
 use Rattle.weighting.proofs.Worths.{Worths, combineAll-cons, combineAll-append, combineAll-worth}
 use Rattle.walks.specs.Automaton.{Automaton, View}
@@ -81,7 +82,30 @@ module _ {W : Type 0} (𝓦 : Weighting W) where
         (stay-worths (x .stay) true t (A .source (x .edge)))
         (run-gains A xs (t + x .stay))
 
--- ---- a stay that is one tick longer, and a stay of one tick
+-- ---- a stay that is one tick longer, at its end or at its begin, and a stay of one tick
+
+either-way : (t : Bool) → cond t false false ≡ false
+either-way true = refl
+either-way false = refl
+
+-- a tick is not the first after one
+pub not-first : (n : ℕ) → eqb (suc n) 0 ≡ false
+not-first n = ne-eqb (suc n) 0 (λ e. omega arith)
+
+pub stay-more : {W : Type 0} (𝓥 : View W) (n : ℕ) (f : Bool) (t p : ℕ) (l : List W) (g : W) → stayGains 𝓥 f t p n ≡ some l
+    → 𝓥 (t + n) (cond (eqb n 0) f false) p ≡ some g → stayGains 𝓥 f t p (suc n) ≡ some (l ++ (g ∷ []))
+unfolding stayGains
+stay-more 𝓥 zero f t p l g e h =
+    let z : t + 0 ≡ t = omega arith in
+    let o : 𝓥 t f p ≡ some g = rw z at h in
+    rw (o, ← Option·some-injective [] l e)
+stay-more {W} 𝓥 (suc n) f t p l g e h =
+    let k = consIf-some (𝓥 t f p) (stayGains 𝓥 false (suc t) p n) l e in
+    let z : t + suc n ≡ suc t + n = omega arith in
+    let o : 𝓥 (suc t + n) (cond (eqb n 0) false false) p ≡ some g = rw (either-way (eqb n 0), ← z) (rw (not-first n) at h) in
+    ap (λ (q : Option W). consIf q (stayGains 𝓥 false (suc t) p (suc n))) (k .2)
+    ∙ ap (consIf (some (k .0))) (stay-more 𝓥 n false (suc t) p (k .1) g (k .3) o)
+    ∙ ap (λ (m : List W). some (m ++ (g ∷ []))) (sym (k .4))
 
 module _ {W C E : Type 0} (A : Automaton C E) (𝓥 : View W) where
   pub gains-longer : (f : Bool) (t : ℕ) (e : E) (n : ℕ) (xs : List (Step E)) (g : W) (gs : List W)

@@ -23,7 +23,7 @@ entered-at true h = refl
 entered-at false h = absurd h
 
 -- together there is a worth of a list
-of-together : {W : Type 0} (𝓦 : Weighting W) (o : Option (List W)) (w : W) → together 𝓦 o ≡ some w → (l : List W) × (o ≡ some l) × (combineAll 𝓦 l ≡ w)
+pub of-together : {W : Type 0} (𝓦 : Weighting W) (o : Option (List W)) (w : W) → together 𝓦 o ≡ some w → (l : List W) × (o ≡ some l) × (combineAll 𝓦 l ≡ w)
 of-together 𝓦 none w e = absurd (Option·none-ne-some w e)
 of-together 𝓦 (some l) w e = (l, refl, Option·some-injective (combineAll 𝓦 l) w e)
 
@@ -84,7 +84,7 @@ module _ {W C E : Type 0} (𝓦 : Weighting W) (A : Automaton C E) (𝓥 : View 
       let u : s .len + (x .stay + total xs) ≡ s .len + x .stay + total xs = omega arith in
       rw (k .4, t, u, combineFrom-append) a
 
-  begins : (b p : ℕ) → T (A .isStart p) → R b (entering A p) (𝓦 .unit)
+  pub begins : (b p : ℕ) → T (A .isStart p) → R b (entering A p) (𝓦 .unit)
   begins zero p h = held (opening-starts 𝓦 A Q p h)
   begins (suc b) p h = begin h
 

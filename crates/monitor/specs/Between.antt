@@ -1,0 +1,57 @@
+-- What the tables hold between calls (document 01, 'Monitor tables'): "A cell holds the best worth of all unfinished runs in
+-- that state now, the present stay included, or the mark". Proved in proofs/CellsHold.antt, for every list of feeds after an
+-- accepted opening, refused feeds included and pieces cut anywhere, on the book of demand 3.
+use Prim.Native.Nat.{ℕ, _<_}
+use mathlib.Core.Path.{_≡_}
+use mathlib.Core.List.{List, [], _∷_}
+use mathlib.Core.Option.{none}
+use lib.ListN.{length, take, drop, getD, replicate}
+use lib.IntN.{ℤ}
+use Rattle.weighting.specs.Order.{IsBest}
+use Rattle.weighting.specs.Weightings.{weightingOf}
+use Rattle.weighting.specs.Cell.{mark, heldIn}
+use Rattle.pattern.specs.declared.Pattern.{Pattern}
+use Rattle.pattern.specs.Clocks.{Clocks}
+use Rattle.pattern.specs.Cells.{cellsNeeded}
+use Rattle.record.specs.Record.{Book}
+use Rattle.walks.specs.Automaton.{State as RunState}
+use Rattle.walks.specs.Holding.{holdState}
+use Rattle.book.specs.Automaton.{held}
+use Rattle.book.specs.Unfinished.{Unfinished}
+use Rattle.monitor.specs.declared.State.{State}
+use Rattle.monitor.specs.Cells.{stateAt}
+use Rattle.monitor.specs.Open.{openRefusal, openState, openFirst, openSecond}
+use Rattle.monitor.specs.Feed.{Call, feedState, feedFirst, feedSecond}
+use Rattle.monitor.specs.Demand.{bookAfter}
+
+-- An unfinished run over the book, worth w, whose state now is that of cell i: its length so far, stage and place, and
+-- "clocks are held at their ceiling". The run's own clocks have none. Now is the book's end.
+pub record NowIn (p : Pattern) (b : Book) (i : ℕ) (w : ℤ) : Type 0 where
+  pub state : RunState Clocks
+  pub run : Unfinished p b (length b) state w
+  pub cell : holdState (held p) state ≡ stateAt p i
+
+-- Two tables, by what was lent at the opening and by what they are now.
+pub record TablesHold (p : Pattern) (lentFirst lentSecond : List ℤ) (b : Book) (first second : List ℤ) : Type 0 where
+  -- the best worth of all unfinished runs in that state now, and the mark, of which nothing is held, exactly if there is none
+  pub cells : (i : ℕ) → i < cellsNeeded p → IsBest (weightingOf (p .weighing) .order) (NowIn p b i) (heldIn (getD first i mark))
+  -- "the needed cells of the second are all marks"
+  pub marked : take (cellsNeeded p) second ≡ replicate (cellsNeeded p) mark
+  -- "further cells are untouched"
+  pub furtherFirst : drop (cellsNeeded p) first ≡ drop (cellsNeeded p) lentFirst
+  pub furtherSecond : drop (cellsNeeded p) second ≡ drop (cellsNeeded p) lentSecond
+  pub firstLong : length first ≡ length lentFirst
+  pub secondLong : length second ≡ length lentSecond
+
+module _ (p : Pattern) (lentFirst lentSecond : List ℤ) where
+  -- After a list of calls, each going on from what the one before it left.
+  abbrev pub HoldAfter : Book → State → (first second : List ℤ) → List Call → Type 0
+  HoldAfter b s t u [] = TablesHold p lentFirst lentSecond b t u
+  HoldAfter b s t u (c ∷ cs) =
+      HoldAfter (bookAfter p b c) (feedState p s t u c) (feedFirst p s t u c) (feedSecond p s t u c) cs
+
+-- "Between calls the first table holds this and the needed cells of the second are all marks; further cells are untouched."
+abbrev pub CellsHold : Type 0
+CellsHold =
+    (p : Pattern) (s : State) (t u : List ℤ) → openRefusal p (length t) (length u) ≡ none → (calls : List Call)
+    → HoldAfter p t u [] (openState p t u s) (openFirst p t u) (openSecond p t u) calls
