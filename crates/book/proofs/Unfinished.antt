@@ -1,23 +1,21 @@
 -- Unfinished runs on a book are what the pattern's automaton reaches, tick by tick, with the same worths.
-use Prim.Native.Nat.{ℕ, zero, suc, _+_, _≤_, _<_}
+use Prim.Native.Nat.{ℕ, zero, suc, _+_, _≤_}
 use native.Mathlib.Omega.{arith}
 use mathlib.Core.Path.{_≡_, refl, sym, ap, subst, _∙_}
-use mathlib.Core.List.{List, [], _∷_, _++_, map}
+use mathlib.Core.List.{List, [], _∷_, _++_}
 use mathlib.Core.Option.{Option, none, some, Option·some-injective, Option·none-ne-some}
 use mathlib.Core.Bool.{Bool, true, false, not, cond}
 use lib.Dec.{T, eqb}
 use lib.ListN.{length}
 use lib.IntN.{ℤ}
 use Rattle.integers.proofs.Tests.{T-true, true-T}
-use Rattle.weighting.specs.declared.Weighing.{Weighing}
-use Rattle.weighting.specs.declared.Weighing.the-variants.{Margin, Sum}
 use Rattle.weighting.specs.Weighting.{Weighting, combineFrom, combineAll}
 use Rattle.weighting.specs.Weightings.{weightingOf}
 use Rattle.weighting.proofs.Worths.{combineAll-snoc, combineAll-one}
 use Rattle.pattern.specs.declared.Edge.{Edge}
 use Rattle.pattern.specs.declared.Pattern.{Pattern}
 use Rattle.pattern.specs.Sound.{soundOf}
-use Rattle.pattern.specs.InUse.{placeAt, edgeAt, edgesOf}
+use Rattle.pattern.specs.InUse.{placeAt, edgeAt}
 use Rattle.pattern.specs.Kinds as kinds
 use Rattle.pattern.specs.Clocks.{Clocks, zeroClocks, later, guardsHold, afterResets}
 use Rattle.record.specs.Record.{Book}
@@ -27,7 +25,7 @@ use Rattle.record.specs.Worth.{stayWorth, stayWorths}
 use Rattle.walks.specs.Automaton.{State, entering, stayed, taken}
 use Rattle.walks.specs.Walks.{Takes, Move, stays, takes, Reach, held, begin, move}
 use Rattle.walks.specs.Runs as walk
-use Rattle.walks.specs.Runs.{Leg, later as after, stayGains, together}
+use Rattle.walks.specs.Runs.{Leg, stayGains, together}
 use Rattle.walks.specs.Tables.{opening}
 use Rattle.walks.proofs.States.{opening-holds}
 use Rattle.walks.proofs.Gains.{not-first, stay-more}

@@ -10,6 +10,7 @@ use Rattle.pattern.specs.Kinds as kinds
 use Rattle.pattern.specs.Clocks.{Clocks, zeroClocks, later, guardsHold, afterResets}
 use Rattle.pattern.specs.Cells.{radixOf}
 use Rattle.walks.specs.Automaton.{Automaton, Same}
+use Rattle.walks.specs.Holding.{heldAt}
 
 -- The pattern's places by number, its edges in use, and its clocks without any ceiling.
 abbrev pub automatonOf : Pattern → Automaton Clocks Edge
@@ -37,3 +38,7 @@ ceilings p = map (λ k. radixOf p k - 1) (0 ∷ 1 ∷ 2 ∷ 3 ∷ [])
 -- "clocks are held at their ceiling"
 unfoldable pub held : Pattern → Clocks → Clocks
 held p cs = zipWith min (ceilings p) cs
+
+-- The pattern's automaton with its clocks held at their ceilings.
+abbrev pub heldAutomaton : Pattern → Automaton Clocks Edge
+heldAutomaton p = heldAt (held p) (automatonOf p)

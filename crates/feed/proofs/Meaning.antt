@@ -35,7 +35,7 @@ use Rattle.walks.specs.Automaton.{State as Place′, TickView}
 use Rattle.walks.specs.Tables.{Table, next}
 use Rattle.walks.proofs.Cut.{only-cells}
 use Rattle.walks.proofs.Rows.{reports-only-cells}
-use Rattle.book.specs.Automaton.{sameClocks}
+use Rattle.book.specs.Automaton.{sameClocks, heldAutomaton}
 use Rattle.book.specs.View.{counts, gainIn, tickView}
 use Rattle.book.proofs.Members.{all-member, at-member}
 use Rattle.cells.specs.declared.Layout.{Layout}
@@ -55,7 +55,7 @@ use Rattle.table_laws.proofs.Report.{report-is-report}
 use Rattle.table_laws.proofs.Patterns.{about-pattern, known-pattern}
 use Rattle.monitor.specs.Cells.{layout, stateAt, indexOf, cellStates, isCell, heldBy, written, upTo}
 use Rattle.monitor.specs.Tick as monitor
-use Rattle.monitor.specs.Tick.{heldAutomaton, openTable, ticksLater, scoreIn, lengthIn}
+use Rattle.monitor.specs.Tick.{openTable, ticksLater, scoreIn, lengthIn}
 use Rattle.monitor.specs.Feed.{cellFine, pieceView}
 use Rattle.monitor.proofs.Numbers.{made-in, made-only}
 use Rattle.monitor.proofs.CellLaws.{laid, cells-are, at-index, celled-at, is-cell, of-cells, Celled}

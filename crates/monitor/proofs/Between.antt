@@ -31,10 +31,10 @@ use Rattle.walks.specs.Automaton.{State as Place, View}
 use Rattle.walks.specs.Tables.{Table, tableAt}
 use Rattle.walks.proofs.Cut.{cut, only-passed, only-cells}
 use Rattle.book.specs.View.{sampleAt, before, viewOf}
-use Rattle.book.specs.Automaton.{sameClocks}
+use Rattle.book.specs.Automaton.{sameClocks, heldAutomaton}
 use Rattle.monitor.specs.declared.State.{State}
 use Rattle.monitor.specs.Cells.{cellStates, heldBy, written}
-use Rattle.monitor.specs.Tick.{heldAutomaton, openTable, ticksLater}
+use Rattle.monitor.specs.Tick.{openTable, ticksLater}
 use Rattle.monitor.specs.State.{noTicks, lastSample, stateSound, pieceLater}
 use Rattle.monitor.specs.Open.{firstCause, tableTooShort, marks}
 use Rattle.monitor.specs.Feed.{Call, pieceBroken, tooManyTicks, cellsBroken, reportsTooShort, feedCause, feedRefusal, isNew, pieceView, tableAfter}

@@ -25,7 +25,7 @@ use Rattle.walks.specs.Automaton.{State, entering, stayed, taken, sameState}
 use Rattle.walks.specs.Walks.{Move, stays, takes}
 use Rattle.walks.specs.Tables.{Closed}
 use Rattle.walks.proofs.States as states
-use Rattle.book.specs.Automaton.{automatonOf, ceilings, held, sameClocks}
+use Rattle.book.specs.Automaton.{ceilings, held, sameClocks, heldAutomaton}
 use Rattle.book.proofs.Members.{all-member, at-member}
 use Rattle.cells.specs.declared.Layout.{Layout}
 use Rattle.cells.specs.Layout.{layoutOf, Laid, cellsIn}
@@ -35,7 +35,6 @@ use Rattle.cells.specs.Index.{Found, At}
 use Rattle.cells.proofs.Blocks.{found, at}
 use Rattle.cells.proofs.Digits.{ticked-within, reset-within}
 use Rattle.monitor.specs.Cells.{upTo, layout, stateAt, indexOf, cellStates, isCell}
-use Rattle.monitor.specs.Tick.{heldAutomaton}
 use Rattle.monitor.proofs.Numbers.{made-in, made-only}
 
 none-unused : placeUnused noPlace ≡ true

@@ -2,7 +2,7 @@
 use Prim.Native.Nat.{ℕ, _≤_, _<_}
 use native.Mathlib.Omega.{arith}
 use mathlib.Core.Path.{_≡_, refl, sym, ap, subst, _∙_}
-use mathlib.Core.List.{List, [], _∷_, _++_}
+use mathlib.Core.List.{List, [], _∷_}
 use mathlib.Core.Option.{Option, none, some}
 use mathlib.Core.Bool.{true}
 use lib.ListN.{length, take, drop, getD, replicate, length-replicate}
@@ -24,14 +24,14 @@ use Rattle.walks.specs.Tables.{Table}
 use Rattle.walks.proofs.Held.{held-walks}
 use Rattle.walks.proofs.TableBest.{table-best}
 use Rattle.walks.proofs.ReportsBest.{opening-within}
-use Rattle.book.specs.Automaton.{automatonOf, held, sameClocks}
+use Rattle.book.specs.Automaton.{automatonOf, held, sameClocks, heldAutomaton}
 use Rattle.book.specs.View.{viewOf}
 use Rattle.book.proofs.Ceilings.{ceilings-hold}
 use Rattle.book.proofs.Unfinished.{unfinished-are-reached}
 use Rattle.monitor.specs.declared.State.{State}
 use Rattle.monitor.specs.Cells.{stateAt, cellStates, heldBy, written}
-use Rattle.monitor.specs.Tick.{heldAutomaton, openTable}
-use Rattle.monitor.specs.Open.{marks, openRefusal, openState, openFirst, openSecond}
+use Rattle.monitor.specs.Tick.{openTable}
+use Rattle.monitor.specs.Open.{marks, openState, openFirst, openSecond}
 use Rattle.monitor.specs.Feed.{Call, feedRefusal, tableAfter, feedState, feedFirst, feedSecond}
 use Rattle.monitor.specs.Demand.{bookAfter}
 use Rattle.monitor.specs.Between.{NowIn, TablesHold, HoldAfter, CellsHold}

@@ -23,7 +23,7 @@ use Rattle.record.specs.Record.{Book}
 use Rattle.walks.specs.Reports.{Wanted, Reported, reportAt}
 use Rattle.walks.proofs.Rows.{reports-only-cells}
 use Rattle.walks.proofs.ReportsBest.{reports-say}
-use Rattle.book.specs.Automaton.{automatonOf, held, sameClocks}
+use Rattle.book.specs.Automaton.{automatonOf, held, sameClocks, heldAutomaton}
 use Rattle.book.specs.View.{sampleAt, before, viewOf}
 use Rattle.book.specs.Claims.{Priced}
 use Rattle.book.proofs.Ceilings.{ceilings-hold}
@@ -31,7 +31,7 @@ use Rattle.book.proofs.StayGains.{gains-are-worths}
 use Rattle.book.proofs.Runs.{priced-are-runs}
 use Rattle.monitor.specs.declared.State.{State}
 use Rattle.monitor.specs.Cells.{upTo, cellStates, written}
-use Rattle.monitor.specs.Tick.{heldAutomaton, openTable, ticksLater, reportOf, scoreIn, lengthIn}
+use Rattle.monitor.specs.Tick.{openTable, ticksLater, reportOf, scoreIn, lengthIn}
 use Rattle.monitor.specs.State.{noTicks}
 use Rattle.monitor.specs.Open.{answerOf, unlessRefused, marks, tableTooShort, openRefusal, openState, openFirst, openSecond}
 use Rattle.monitor.specs.Feed.{Call, feedRefusal, tableAfter, reportAfter, feedState, feedFirst, feedSecond, feedScores, feedLengths}

@@ -33,9 +33,9 @@ use Rattle.walks.specs.Tables.{Table, opening, tableAt}
 use Rattle.walks.proofs.States.{opening-holds}
 use Rattle.walks.proofs.Kept.{kept}
 use Rattle.book.specs.View.{counts, gainIn, sampleAt, before, viewOf}
-use Rattle.book.specs.Automaton.{sameClocks}
+use Rattle.book.specs.Automaton.{sameClocks, heldAutomaton}
 use Rattle.monitor.specs.Cells.{cellStates}
-use Rattle.monitor.specs.Tick.{heldAutomaton, openTable, ticksLater}
+use Rattle.monitor.specs.Tick.{openTable, ticksLater}
 use Rattle.monitor.proofs.CellLaws.{past-unused}
 
 -- the size of a worth of length l

@@ -3,19 +3,13 @@ use Prim.Native.Nat.{ℕ}
 use mathlib.Core.Option.{Option, none, some}
 use lib.IntN.{ℤ, pos}
 use Rattle.weighting.specs.Weightings.{weightingOf}
-use Rattle.pattern.specs.declared.Edge.{Edge}
 use Rattle.pattern.specs.declared.Pattern.{Pattern}
 use Rattle.pattern.specs.Clocks.{Clocks}
-use Rattle.walks.specs.Automaton.{Automaton, View}
-use Rattle.walks.specs.Holding.{heldAt}
+use Rattle.walks.specs.Automaton.{View}
 use Rattle.walks.specs.Tables.{Table, opening, tableAt}
 use Rattle.walks.specs.Reports.{report}
-use Rattle.book.specs.Automaton.{automatonOf, held, sameClocks}
+use Rattle.book.specs.Automaton.{sameClocks, heldAutomaton}
 use Rattle.monitor.specs.Cells.{cellStates}
-
--- The pattern's automaton with its clocks held at their ceilings.
-abbrev pub heldAutomaton : Pattern → Automaton Clocks Edge
-heldAutomaton p = heldAt (held p) (automatonOf p)
 
 -- "At each time, a start place with length 0, stage 0 and clocks 0 holds the empty run's worth"; after an opening nothing
 -- else is held.

@@ -30,10 +30,10 @@ use Rattle.cells.proofs.Digits.{ticked-within, reset-within}
 use Rattle.cells.proofs.Layouts.{layout-laid}
 use Rattle.walks.specs.Automaton.{State, entering}
 use Rattle.walks.specs.Walks.{Move, stays, takes}
-use Rattle.book.specs.Automaton.{held}
+use Rattle.book.specs.Automaton.{held, heldAutomaton}
 use Rattle.book.proofs.Members.{all-member, at-member}
 use Rattle.table.specs.Moves.{edgeIn}
-use Rattle.table_laws.specs.Patterns.{heldAutomaton, AboutPattern, KnownPattern, ClosedPattern}
+use Rattle.table_laws.specs.Patterns.{AboutPattern, KnownPattern, ClosedPattern}
 use Rattle.table_laws.proofs.States.{Cell, seen-in, in-seen, ticked-four-long, edge-in, in-edges}
 
 -- ---- edges in use are sound

@@ -20,7 +20,7 @@ use Rattle.table.specs.declared.report.Report.{Report}
 use Rattle.table.specs.Moves.{cellAt, gainAt, edgeIn}
 use Rattle.table_laws.specs.Offers.{stageOf, gainsOf}
 
--- The state that cell i is about.
+-- The state that cell i of a layout is about; `monitor/specs/Cells` has it for a pattern's layout.
 abbrev pub stateAt : Layout → ℕ → State Clocks
 stateAt l i =
     record { len = lenAt l i; entered = eqb (stageAt l i) 0; place = placeAt l i; clocks = cellClocks l i }

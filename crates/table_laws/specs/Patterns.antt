@@ -5,25 +5,19 @@ use mathlib.Core.Bool.{Bool, true, false}
 use mathlib.Core.List.{List}
 use lib.ListN.{getD}
 use lib.IntN.{ℤ}
-use Rattle.pattern.specs.declared.Edge.{Edge}
 use Rattle.pattern.specs.declared.Pattern.{Pattern}
 use Rattle.pattern.specs.InUse.{placeAt}
 use Rattle.pattern.specs.Sound.{soundOf}
 use Rattle.pattern.specs.Kinds as kinds
 use Rattle.pattern.specs.Clocks.{Clocks}
 use Rattle.cells.specs.Layout.{layoutOf}
-use Rattle.walks.specs.Automaton.{Automaton, State}
-use Rattle.walks.specs.Holding.{heldAt}
+use Rattle.walks.specs.Automaton.{State}
 use Rattle.walks.specs.Tables.{Table, Closed}
-use Rattle.book.specs.Automaton.{automatonOf, held}
+use Rattle.book.specs.Automaton.{heldAutomaton}
 use Rattle.table.specs.declared.View.{View}
 use Rattle.table.specs.Moves.{gainAt}
 use Rattle.table.specs.Asks.{Sized, Known}
 use Rattle.table_laws.specs.Meaning.{About, Seen}
-
--- The pattern's automaton with its clocks held at their ceilings.
-abbrev pub heldAutomaton : Pattern → Automaton Clocks Edge
-heldAutomaton p = heldAt (held p) (automatonOf p)
 
 -- Flags, one a place: where a run may begin, and where it may end.
 pub record Flags (p : Pattern) (starts ends : List Bool) : Type 0 where
