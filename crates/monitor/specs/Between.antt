@@ -24,8 +24,9 @@ use Rattle.monitor.specs.Open.{openRefusal, openState, openFirst, openSe
 use Rattle.monitor.specs.Feed.{Call, feedState, feedFirst, feedSecond}
 use Rattle.monitor.specs.Demand.{bookAfter}
 
--- An unfinished run over the book, worth w, whose state now is that of cell i: its length so far, stage and place, and
--- "clocks are held at their ceiling". The run's own clocks have none. Now is the book's end.
+-- An unfinished run over the book, worth w, whose state now, at the book's end, is that of cell i: its length so far, stage
+-- and place, and "clocks are held at their ceiling". The run's own clocks have none. A run longer than the window's high is
+-- in no cell.
 pub record NowIn (p : Pattern) (b : Book) (i : ℕ) (w : ℤ) : Type 0 where
   pub state : RunState Clocks
   pub run : Unfinished p b (length b) state w
