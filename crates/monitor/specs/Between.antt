@@ -34,7 +34,7 @@ pub record NowIn (p : Pattern) (b : Book) (i : ℕ) (w : ℤ) : Type 0 where
 
 -- Two tables, by what was lent at the opening and by what they are now.
 pub record TablesHold (p : Pattern) (lentFirst lentSecond : List ℤ) (b : Book) (first second : List ℤ) : Type 0 where
-  -- the best worth of all unfinished runs in that state now, and the mark, of which nothing is held, exactly if there is none
+  -- the best worth of all unfinished runs in that state now; the mark, which `heldIn` reads as none, exactly if there is none
   pub cells : (i : ℕ) → i < cellsNeeded p → IsBest (weightingOf (p .weighing) .order) (NowIn p b i) (heldIn (getD first i mark))
   -- "the needed cells of the second are all marks"
   pub marked : take (cellsNeeded p) second ≡ replicate (cellsNeeded p) mark
