@@ -4,6 +4,7 @@ use native.Mathlib.Omega.{arith}
 use mathlib.Core.Path.{_≡_, refl, _∙_}
 use mathlib.Core.Bool.{Bool, true, false, cond}
 use mathlib.Core.List.{List}
+use lib.Dec.{eqb}
 use lib.ListN.{length, getD, set, length-set}
 use lib.Seq.{getD-set-other}
 use lib.IntN.{ℤ, pos}
@@ -11,12 +12,12 @@ use lib.Signed.{ltZ}
 use Rattle.weighting.specs.declared.Weighing.{Weighing}
 use Rattle.weighting.specs.Cell.{mark}
 use Rattle.pattern.specs.declared.Edge.{Edge}
-use Rattle.pattern.specs.Clocks.{Clocks}
+use Rattle.pattern.specs.Clocks.{Clocks, guardsHold, afterResets}
 use Rattle.cells.specs.declared.Layout.{Layout}
-use Rattle.cells.specs.Index.{clocksAt, blockAt}
+use Rattle.cells.specs.Index.{codeOf, clocksAt, ticked, blockAt}
 use Rattle.cells.proofs.Blocks.{below-block}
 use Rattle.table.specs.declared.View.{View}
-use Rattle.table.specs.Moves.{cellAt, marked, goesTo, mayGo, moved, alongOf, passOf, followOf, gainAt, movesOf, still, edgeIn, rowOf, rowsOf, startsOf}
+use Rattle.table.specs.Moves.{cellAt, marked, each, moved, still, edgeIn, leaveOf, spreadOf, visitOf, visitsOf, passOf, gainAt, placeOf, placesOf, rowOf, rowsOf, startsOf}
 
 pub record Kept (b : ℕ) (t u : List ℤ) : Type 0 where
   pub long : length u ≡ length t
@@ -38,40 +39,54 @@ pub kept-cond : {b : ℕ} {t u v : List ℤ} (x : Bool) → Kept b t u → Kept 
 kept-cond true p q = p
 kept-cond false p q = q
 
+pub kept-each : (b : ℕ) (f : ℕ → List ℤ → List ℤ) → ((i : ℕ) (t : List ℤ) → Kept b t (f i t)) → (n : ℕ) (t : List ℤ) → Kept b t (each f n t)
+unfolding each
+kept-each b f h zero t = kept-refl b t
+kept-each b f h (suc n) t = kept-trans (kept-each b f h n t) (h n (each f n t))
+
 -- ---- the moves, from the smallest to a row
 
-pub moved-kept : (b : ℕ) (l : Layout) (w : Weighing) (e : Edge) (g : ℤ) (cs : Clocks) (at to k : ℕ) (t : List ℤ) → b ≤ to → Kept b t (moved l w e g cs at to k t)
+pub moved-kept : (b : ℕ) (l : Layout) (w : Weighing) (e : Edge) (to : ℕ) (cs : Clocks) (x : ℤ) (t : List ℤ) → b ≤ to → Kept b t (moved l w e to cs x t)
 unfolding moved
-moved-kept b l w e g cs at to k t h =
-    kept-cond (ltZ mark (cellAt t (at + k)))
-    (kept-cond (mayGo l e cs) (kept-set b t (to + goesTo l e cs) _ (omega arith)) (kept-refl b t))
-    (kept-refl b t)
+moved-kept b l w e to cs x t h =
+    kept-cond (guardsHold cs e) (kept-set b t (to + codeOf (l .radices) (afterResets e cs)) _ (omega arith)) (kept-refl b t)
 
-pub along-kept : (b : ℕ) (l : Layout) (w : Weighing) (e : Edge) (g : ℤ) (at to n : ℕ) (t : List ℤ) → b ≤ to → Kept b t (alongOf l w e g at to n t)
-unfolding alongOf
-along-kept b l w e g at to zero t h = kept-refl b t
-along-kept b l w e g at to (suc n) t h =
-    kept-trans (along-kept b l w e g at to n t h)
-    (moved-kept b l w e g (clocksAt (l .radices) n) at to n (alongOf l w e g at to n t) h)
+module _ (l : Layout) (w : Weighing) (n : ℕ) where
+  pub turn-kept : (e : Edge) (stage : ℕ) (cs : Clocks) (x : ℤ) (t : List ℤ) → Kept ((n + 1) * l .row) t (moved l w e (blockAt l (n + 1) stage (e .to)) cs x t)
+  turn-kept e stage cs x t =
+      moved-kept ((n + 1) * l .row) l w e (blockAt l (n + 1) stage (e .to)) cs x t (below-block l (n + 1) stage (e .to))
 
-pub pass-kept : (b : ℕ) (l : Layout) (w : Weighing) (e : Edge) (g : ℤ) (at to : ℕ) (t : List ℤ) → b ≤ to → Kept b t (passOf l w e g at to t)
-unfolding passOf
-pass-kept b l w e g at to t h =
-    kept-cond (ltZ mark g) (along-kept b l w e g at to (l .block) t h) (kept-refl b t)
+  pub leave-kept : (p : ℕ) (cs : Clocks) (x : ℤ) (e : Edge) (t : List ℤ) → Kept ((n + 1) * l .row) t (leaveOf l w n p cs x e t)
+  unfolding leaveOf
+  leave-kept p cs x e t = kept-cond (eqb (e .from) p) (turn-kept e 0 cs x t) (kept-refl _ t)
 
-pub follow-kept : (l : Layout) (w : Weighing) (e : Edge) (g h : ℤ) (n stage : ℕ) (t : List ℤ) → Kept ((n + 1) * l .row) t (followOf l w e g h n stage t)
-unfolding followOf
-follow-kept l w e g h n stage t =
-    let b = below-block l (n + 1) stage (e .to) in
-    kept-trans (pass-kept _ l w e g (blockAt l n 0 (e .from)) (blockAt l (n + 1) stage (e .to)) t b)
-    (pass-kept _ l w e h (blockAt l n 1 (e .from)) (blockAt l (n + 1) stage (e .to)) _ b)
+  module _ (es : List Edge) (count : ℕ) where
+    pub spread-kept : (p : ℕ) (cs : Clocks) (x : ℤ) (t : List ℤ) → Kept ((n + 1) * l .row) t (spreadOf l w es count n p cs x t)
+    unfolding spreadOf
+    spread-kept p cs x t =
+        kept-trans (turn-kept (still p) 1 cs x t)
+        (kept-each _ (λ i. leaveOf l w n p cs x (edgeIn es i)) (λ i. leave-kept p cs x (edgeIn es i)) count _)
 
-pub moves-kept : (l : Layout) (w : Weighing) (v : View) (f : ℕ → Edge) (n stage i : ℕ) (t : List ℤ) → Kept ((n + 1) * l .row) t (movesOf l w v f n stage i t)
-unfolding movesOf
-moves-kept l w v f n stage zero t = kept-refl _ t
-moves-kept l w v f n stage (suc i) t =
-    kept-trans (moves-kept l w v f n stage i t)
-    (follow-kept l w (f i) (gainAt (v .entered) (f i .from)) (gainAt (v .staying) (f i .from)) n stage _)
+    pub visit-kept : (g : ℤ) (p at k : ℕ) (cs : Clocks) (t : List ℤ) → Kept ((n + 1) * l .row) t (visitOf l w es count g n p at k cs t)
+    unfolding visitOf
+    visit-kept g p at k cs t =
+        kept-cond (ltZ mark (cellAt t (at + k))) (spread-kept p (ticked (l .radices) cs) _ t) (kept-refl _ t)
+
+    pub visits-kept : (g : ℤ) (p at m : ℕ) (t : List ℤ) → Kept ((n + 1) * l .row) t (visitsOf l w es count g n p at m t)
+    visits-kept g p at m t =
+        kept-each _ (λ k. visitOf l w es count g n p at k (clocksAt (l .radices) k)) (λ k. visit-kept g p at k (clocksAt (l .radices) k)) m t
+
+    pub pass-kept : (g : ℤ) (p at : ℕ) (t : List ℤ) → Kept ((n + 1) * l .row) t (passOf l w es count g n p at t)
+    unfolding passOf
+    pass-kept g p at t = kept-cond (ltZ mark g) (visits-kept g p at (l .block) t) (kept-refl _ t)
+
+    pub place-kept : (v : View) (p : ℕ) (t : List ℤ) → Kept ((n + 1) * l .row) t (placeOf l w v es count n p t)
+    unfolding placeOf
+    place-kept v p t =
+        kept-trans (pass-kept (gainAt (v .entered) p) p (blockAt l n 0 p) t) (pass-kept (gainAt (v .staying) p) p (blockAt l n 1 p) _)
+
+    pub places-kept : (v : View) (m : ℕ) (t : List ℤ) → Kept ((n + 1) * l .row) t (placesOf l w v es count n m t)
+    places-kept v m t = kept-each _ (placeOf l w v es count n) (place-kept v) m t
 
 pub marked-kept : (b : ℕ) (t : List ℤ) (a n : ℕ) → b ≤ a → Kept b t (marked t a n)
 unfolding marked
@@ -82,9 +97,8 @@ marked-kept b t a (suc n) h =
 pub row-kept : (l : Layout) (w : Weighing) (v : View) (es : List Edge) (count n : ℕ) (t : List ℤ) → Kept ((n + 1) * l .row) t (rowOf l w v es count n t)
 unfolding rowOf
 row-kept l w v es count n t =
-    kept-trans
-    (kept-trans (marked-kept ((n + 1) * l .row) t ((n + 1) * l .row) _ (omega arith)) (moves-kept l w v still n 1 (l .places) _))
-    (moves-kept l w v (edgeIn es) n 0 count _)
+    kept-trans (marked-kept ((n + 1) * l .row) t ((n + 1) * l .row) _ (omega arith))
+    (places-kept l w n es count v (l .places) _)
 
 -- ---- lengths
 

@@ -7,6 +7,7 @@ use mathlib.Core.Path.{_≡_, refl, sym, ap, _∙_}
 use mathlib.Core.Bool.{Bool, true, false, cond}
 use mathlib.Core.List.{List, []}
 use mathlib.Core.Logic.{inl, inr}
+use borrow.Author.Tests.{eq-eqb, ne-eqb}
 use lib.ListN.{length, getD, set}
 use lib.IntN.{ℤ, natAbs}
 use lib.Signed.{ltZ}
@@ -20,15 +21,15 @@ use Rattle.pattern.specs.declared.Edge.{Edge}
 use Rattle.pattern.specs.Clocks.{Clocks, guardsHold, afterResets}
 use Rattle.cells.specs.declared.Layout.{Layout}
 use Rattle.cells.specs.Layout.{Laid, cellsIn}
-use Rattle.cells.specs.Index.{codeOf, clocksAt, ticked, Within, blockAt, Placed}
+use Rattle.cells.specs.Index.{codeOf, ticked, Within, blockAt}
 use Rattle.cells.proofs.Digits.{ticked-within, reset-within, coded, block-some}
-use Rattle.cells.proofs.Blocks.{row-next, block-low, block-in, apart, below-block}
+use Rattle.cells.proofs.Blocks.{row-next, row-fits, block-low, block-in}
 use Rattle.table.specs.declared.View.{View}
-use Rattle.table.specs.Moves.{cellAt, marked, cleared, offered, goesTo, mayGo, moved, alongOf, passOf, followOf, gainAt, movesOf, still, edgeIn, rowOf, rowsOf, startsOf, begun, tickOf, openOf}
+use Rattle.table.specs.Moves.{cellAt, marked, cleared, each, offered, moved, still, leaveOf, leavesOf, spreadOf, visitOf, visitsOf, passOf, gainAt, placeOf, placesOf, rowOf, rowsOf, startsOf, begun, tickOf, openOf}
 use Rattle.table.specs.declared.report.Report.{Report}
 use Rattle.table.specs.Reports.{noted, blockNoted, placeNoted, endsNoted, lengthsNoted}
-use Rattle.table.specs.Asks.{Sized, Known, Whole, Bounded, Along, Ready, Follow, Rows}
-use Rattle.table.proofs.Kept.{Kept, row-kept, moves-kept, marked-kept, pass-kept}
+use Rattle.table.specs.Asks.{Sized, Known, Whole, Bounded, Edges, Moving, Passing, Ready, Rows}
+use Rattle.table.proofs.Kept.{Kept, row-kept, marked-kept, pass-kept}
 
 -- ---- sizes
 
@@ -47,41 +48,54 @@ marked-more t a i h =
     let f : a + (i - a) ≡ i = omega arith in
     rw (e, f)
 
--- ---- a cell
+pub each-more : (f : ℕ → List ℤ → List ℤ) (k : ℕ) (t₀ t u : List ℤ) → t ≡ each f k t₀ → u ≡ f k t → u ≡ each f (k + 1) t₀
+unfolding each
+each-more f k t₀ t u p q = q ∙ rw (p, add-one k)
+
+-- ---- one move
 
 -- what the calls of a turn gave is the move
-pub moved-is : (l : Layout) (w : Weighing) (e : Edge) (g : ℤ) (cs : Clocks) (at to k : ℕ) (t u : List ℤ) (c d : Clocks) (j : ℕ) (x : ℤ) → ltZ mark (cellAt t (at + k)) ≡ true → c ≡ ticked (l .radices) cs → guardsHold c e ≡ true → d ≡ afterResets e c → j ≡ codeOf (l .radices) d → x ≡ weightingOf w .combine (cellAt t (at + k)) g → u ≡ offered w t (to + j) x → u ≡ moved l w e g cs at to k t
+pub moved-is : (l : Layout) (w : Weighing) (e : Edge) (to : ℕ) (cs d : Clocks) (x : ℤ) (j : ℕ) (t u : List ℤ) → guardsHold cs e ≡ true → d ≡ afterResets e cs → j ≡ codeOf (l .radices) d → u ≡ offered w t (to + j) x → u ≡ moved l w e to cs x t
 unfolding moved
-moved-is l w e g cs at to k t u c d j x m a h r q f p =
-    let h′ : mayGo l e cs ≡ true = rw a at h in
-    let d′ : d ≡ afterResets e (ticked (l .radices) cs) = rw a at r in
-    let j′ : j ≡ goesTo l e cs = rw d′ at q in
-    rw (m, h′) (rw (j′, f) at p)
+moved-is l w e to cs d x j t u h r q p =
+    let j′ : j ≡ codeOf (l .radices) (afterResets e cs) = rw r at q in
+    rw h (rw j′ at p)
 
-pub moved-no : (l : Layout) (w : Weighing) (e : Edge) (g : ℤ) (cs : Clocks) (at to k : ℕ) (t : List ℤ) → ltZ mark (cellAt t (at + k)) ≡ false → t ≡ moved l w e g cs at to k t
+pub moved-no : (l : Layout) (w : Weighing) (e : Edge) (to : ℕ) (cs : Clocks) (x : ℤ) (t : List ℤ) → guardsHold cs e ≡ false → t ≡ moved l w e to cs x t
 unfolding moved
-moved-no l w e g cs at to k t m = rw m
+moved-no l w e to cs x t h = rw h
 
-pub moved-shut : (l : Layout) (w : Weighing) (e : Edge) (g : ℤ) (cs : Clocks) (at to k : ℕ) (t : List ℤ) (c : Clocks) → ltZ mark (cellAt t (at + k)) ≡ true → c ≡ ticked (l .radices) cs → guardsHold c e ≡ false → t ≡ moved l w e g cs at to k t
-unfolding moved
-moved-shut l w e g cs at to k t c m a h =
-    let h′ : mayGo l e cs ≡ false = rw a at h in
-    rw (m, h′)
-
--- the clocks that an edge leads to are those of a cell of the block
-pub goes-within : (l : Layout) (e : Edge) (cs c d : Clocks) → Laid l → c ≡ ticked (l .radices) cs → d ≡ afterResets e c → Within (l .radices) d
-goes-within l e cs c d h a r = rw (r, a) (reset-within (l .radices) e (ticked (l .radices) cs) (ticked-within l cs h))
-
-pub goes-lt : (l : Layout) (e : Edge) (cs : Clocks) → Laid l → goesTo l e cs < l .block
-goes-lt l e cs h = coded l _ h (goes-within l e cs _ _ h refl refl) .whole
-
-pub coded-lt : (l : Layout) (e : Edge) (cs c d : Clocks) (j : ℕ) → Laid l → c ≡ ticked (l .radices) cs → d ≡ afterResets e c → j ≡ codeOf (l .radices) d → j < l .block
-coded-lt l e cs c d j h a r q = rw q (coded l d h (goes-within l e cs c d h a r) .whole)
+pub reset-lt : (l : Layout) (e : Edge) (cs d : Clocks) (j : ℕ) → Laid l → Within (l .radices) cs → d ≡ afterResets e cs → j ≡ codeOf (l .radices) d → j < l .block
+reset-lt l e cs d j h i r q = rw (q, r) (coded l (afterResets e cs) h (reset-within (l .radices) e cs i) .whole)
 
 pub grown-fits : (w : Weighing) (v g : ℤ) → natAbs v ≤ 2 ^ 60 → natAbs g ≤ 8000000 → SFits w64 (weightingOf w .combine v g)
 grown-fits w v g a b = combine-fits w v g (omega arith)
 
--- ---- a block
+-- ---- the edges out of a place
+
+-- a block of row n + 1 is in the table
+pub next-in : {t : List ℤ} {l : Layout} {n : ℕ} {cs : Clocks} (stage p : ℕ) → Moving t l n cs → stage ≤ 1 → p < l .places → blockAt l (n + 1) stage p + l .block ≤ length t
+next-in {t} {l} {n} stage p m st h =
+    let low = m .low in
+    let b = block-in l (n + 1) stage p (record { laid = m .laid; low = omega arith; stages = st; place = h }) in
+    omega (arith, m .inside)
+
+pub moving-kept : {b : ℕ} {t u : List ℤ} {l : Layout} {n : ℕ} {cs : Clocks} → Kept b t u → Moving t l n cs → Moving u l n cs
+moving-kept k m = record { laid = m .laid; low = m .low; inside = rw (k .long) (m .inside); within = m .within }
+
+pub leave-is : (l : Layout) (w : Weighing) (n p : ℕ) (cs : Clocks) (x : ℤ) (e : Edge) (to : ℕ) (t u : List ℤ) → e .from ≡ p → to ≡ blockAt l (n + 1) 0 (e .to) → u ≡ moved l w e to cs x t → u ≡ leaveOf l w n p cs x e t
+unfolding leaveOf
+leave-is l w n p cs x e to t u f h q = rw (eq-eqb (e .from) p f) (rw h at q)
+
+pub leave-no : (l : Layout) (w : Weighing) (n p : ℕ) (cs : Clocks) (x : ℤ) (e : Edge) (t : List ℤ) → (e .from ≡ p → ⊥) → t ≡ leaveOf l w n p cs x e t
+unfolding leaveOf
+leave-no l w n p cs x e t f = rw (ne-eqb (e .from) p f)
+
+pub spread-is : (l : Layout) (w : Weighing) (es : List Edge) (count n p : ℕ) (cs : Clocks) (x : ℤ) (e : Edge) (to : ℕ) (t u z : List ℤ) → e ≡ still p → to ≡ blockAt l (n + 1) 1 p → u ≡ moved l w e to cs x t → z ≡ leavesOf l w es n p cs x count u → z ≡ spreadOf l w es count n p cs x t
+unfolding spreadOf
+spread-is l w es count n p cs x e to t u z s h q r = r ∙ rw (q, s, h)
+
+-- ---- a cell, a block
 
 pub bounded-kept : {b : ℕ} {t u : List ℤ} {a n : ℕ} → Kept b t u → a + n ≤ b → Bounded t a n → Bounded u a n
 bounded-kept {b} {t} {u} {a} {n} p h o =
@@ -91,111 +105,95 @@ pub bounded-part : {t : List ℤ} {a n : ℕ} (b m : ℕ) → Bounded t a n → 
 bounded-part {t} {a} {n} b m o h =
     record { at = λ k i. let s : a + b + k ≡ a + (b + k) = omega arith in rw s (o .at (b + k) (omega arith)) }
 
-pub along-asks : {l : Layout} {g : ℤ} {at to : ℕ} {t u : List ℤ} → Kept to t u → Along t l g at to → Along u l g at to
-along-asks p h =
+pub passing-kept : {t u : List ℤ} {l : Layout} {es : List Edge} {count : ℕ} {g : ℤ} {n p at : ℕ} → Kept ((n + 1) * l .row) t u → Passing t l es count g n p at → Passing u l es count g n p at
+passing-kept k h =
     record {
       laid = h .laid;
+      edges = h .edges;
       gain = h .gain;
+      low = h .low;
+      place = h .place;
       apart = h .apart;
-      inside = rw (p .long) (h .inside);
-      bounded = bounded-kept p (h .apart) (h .bounded);
+      inside = rw (k .long) (h .inside);
+      bounded = bounded-kept k (h .apart) (h .bounded);
     }
 
-pub along-step : (l : Layout) (w : Weighing) (e : Edge) (g : ℤ) (at to k : ℕ) (t : List ℤ) → alongOf l w e g at to (k + 1) t ≡ moved l w e g (clocksAt (l .radices) k) at to k (alongOf l w e g at to k t)
-unfolding alongOf
-along-step l w e g at to k t = rw (add-one k)
+pub cell-in : {t : List ℤ} {l : Layout} {es : List Edge} {count : ℕ} {g : ℤ} {n p at : ℕ} (k : ℕ) → Passing t l es count g n p at → k < l .block → at + k < length t
+cell-in {t} {l} {es} {count} {g} {n} k h low =
+    let f = row-fits l n (h .low) in
+    let a = h .apart in
+    let i = h .inside in
+    omega arith
 
-pub along-more : (l : Layout) (w : Weighing) (e : Edge) (g : ℤ) (at to k : ℕ) (cs : Clocks) (t₀ t u : List ℤ) → cs ≡ clocksAt (l .radices) k → t ≡ alongOf l w e g at to k t₀ → u ≡ moved l w e g cs at to k t → u ≡ alongOf l w e g at to (k + 1) t₀
-along-more l w e g at to k cs t₀ t u c p q = q ∙ rw (c, p) (sym (along-step l w e g at to k t₀))
+-- the clocks of an occupied cell, a tick later, are those of a cell
+pub passing-moving : {t : List ℤ} {l : Layout} {es : List Edge} {count : ℕ} {g : ℤ} {n p at : ℕ} (cs c : Clocks) → Passing t l es count g n p at → c ≡ ticked (l .radices) cs → Moving t l n c
+passing-moving {t} {l} cs c h e =
+    rw e (record { laid = h .laid; low = h .low; inside = h .inside; within = ticked-within l cs (h .laid) })
 
-pub pass-is : (l : Layout) (w : Weighing) (e : Edge) (g : ℤ) (at to : ℕ) (t u : List ℤ) → ltZ mark g ≡ true → u ≡ alongOf l w e g at to (l .block) t → u ≡ passOf l w e g at to t
+pub visit-is : (l : Layout) (w : Weighing) (es : List Edge) (count : ℕ) (g : ℤ) (n p at k : ℕ) (cs c : Clocks) (x : ℤ) (t u : List ℤ) → ltZ mark (cellAt t (at + k)) ≡ true → c ≡ ticked (l .radices) cs → x ≡ weightingOf w .combine (cellAt t (at + k)) g → u ≡ spreadOf l w es count n p c x t → u ≡ visitOf l w es count g n p at k cs t
+unfolding visitOf
+visit-is l w es count g n p at k cs c x t u m a f q = rw m (rw (a, f) at q)
+
+pub visit-no : (l : Layout) (w : Weighing) (es : List Edge) (count : ℕ) (g : ℤ) (n p at k : ℕ) (cs : Clocks) (t : List ℤ) → ltZ mark (cellAt t (at + k)) ≡ false → t ≡ visitOf l w es count g n p at k cs t
+unfolding visitOf
+visit-no l w es count g n p at k cs t m = rw m
+
+pub pass-is : (l : Layout) (w : Weighing) (es : List Edge) (count : ℕ) (g : ℤ) (n p at : ℕ) (t u : List ℤ) → ltZ mark g ≡ true → u ≡ visitsOf l w es count g n p at (l .block) t → u ≡ passOf l w es count g n p at t
 unfolding passOf
-pass-is l w e g at to t u m f = rw m f
+pass-is l w es count g n p at t u m f = rw m f
 
-pub pass-no : (l : Layout) (w : Weighing) (e : Edge) (g : ℤ) (at to : ℕ) (t : List ℤ) → ltZ mark g ≡ false → t ≡ passOf l w e g at to t
+pub pass-no : (l : Layout) (w : Weighing) (es : List Edge) (count : ℕ) (g : ℤ) (n p at : ℕ) (t : List ℤ) → ltZ mark g ≡ false → t ≡ passOf l w es count g n p at t
 unfolding passOf
-pass-no l w e g at to t m = rw m
+pass-no l w es count g n p at t m = rw m
 
--- ---- an edge
+-- ---- a place, a row
 
 pub ready-kept : {l : Layout} {n : ℕ} {t u : List ℤ} → Kept ((n + 1) * l .row) t u → Ready t l n → Ready u l n
 ready-kept {l} {n} k r =
     record { inside = rw (k .long) (r .inside); low = r .low; bounded = bounded-kept k (omega (arith, row-next n (l .row))) (r .bounded) }
 
--- a block of row n can be moved to one of row n + 1
-pub pass-asks : (t : List ℤ) (l : Layout) (g : ℤ) (n from p stage q : ℕ) → Laid l → Sized 8000000 g → from ≤ 1 → p < l .places → stage ≤ 1 → q < l .places → Ready t l n → Along t l g (blockAt l n from p) (blockAt l (n + 1) stage q)
+-- a block of row n can be moved
+pub pass-asks : (t : List ℤ) (l : Layout) (es : List Edge) (count : ℕ) (g : ℤ) (n stage p : ℕ) → Laid l → Edges l es count → Sized 8000000 g → stage ≤ 1 → p < l .places → Ready t l n → Passing t l es count g n p (blockAt l n stage p)
 unfolding blockAt
-pass-asks t l g n from p stage q laid small st pl st′ pl′ r =
+pass-asks t l es count g n stage p laid edges small st pl r =
     let low = r .low in
-    let a : Placed l n from p = record { laid = laid; low = omega arith; stages = st; place = pl } in
-    let b : Placed l (n + 1) stage q = record { laid = laid; low = omega arith; stages = st′; place = pl′ } in
+    let b = block-low l n stage p (record { laid = laid; low = omega arith; stages = st; place = pl }) in
     record {
       laid = laid;
+      edges = edges;
       gain = small;
-      apart = apart l n from p stage q a;
-      inside = omega (arith, block-in l (n + 1) stage q b, r .inside);
-      bounded = bounded-part _ _ (r .bounded) (omega (arith, block-low l n from p a));
+      low = r .low;
+      place = pl;
+      apart = omega (arith, row-next n (l .row));
+      inside = r .inside;
+      bounded = bounded-part _ _ (r .bounded) (omega arith);
     }
 
-module _ (t : List ℤ) (l : Layout) (w : Weighing) (e : Edge) (g h : ℤ) (n stage a b to : ℕ) (f : Follow t l e g h n stage)
-    (ea : a ≡ blockAt l n 0 (e .from)) (eb : b ≡ blockAt l n 1 (e .from)) (et : to ≡ blockAt l (n + 1) stage (e .to)) where
-  pub follow-first : Along t l g a to
-  follow-first = rw (ea, et) (pass-asks t l g n 0 (e .from) stage (e .to) (f .laid) (f .entered) (omega arith) (f .from) (f .stages) (f .to) (f .ready))
+pub known-edges : {l : Layout} {v : View} {es : List Edge} {count : ℕ} → Known l v es count → Edges l es count
+known-edges k = record { few = k .edges; tos = k .tos }
 
-  pub follow-second : (u : List ℤ) → u ≡ passOf l w e g a to t → Along u l h b to
-  follow-second u p =
-      let k : Kept ((n + 1) * l .row) t u = rw p (pass-kept ((n + 1) * l .row) l w e g a to t (rw et (below-block l (n + 1) stage (e .to)))) in
-      rw (eb, et) (pass-asks u l h n 1 (e .from) stage (e .to) (f .laid) (f .staying) (omega arith) (f .from) (f .stages) (f .to) (ready-kept k (f .ready)))
+module _ (t : List ℤ) (l : Layout) (w : Weighing) (v : View) (es : List Edge) (count n p a b : ℕ) (g h : ℤ) (k : Known l v es count) (r : Ready t l n) (low : p < l .places)
+    (eg : g ≡ gainAt (v .entered) p) (eh : h ≡ gainAt (v .staying) p) (ea : a ≡ blockAt l n 0 p) (eb : b ≡ blockAt l n 1 p) where
+  pub place-first : Passing t l es count g n p a
+  place-first = rw (eg, ea) (pass-asks t l es count _ n 0 p (k .laid) (known-edges k) (k .entered p low) (omega arith) low r)
 
-  pub follow-is : (u v : List ℤ) → u ≡ passOf l w e g a to t → v ≡ passOf l w e h b to u → v ≡ followOf l w e g h n stage t
-  unfolding followOf
-  follow-is u v p q = q ∙ rw (p, ea, eb, et)
+  pub place-second : (u : List ℤ) → u ≡ passOf l w es count g n p a t → Passing u l es count h n p b
+  place-second u e =
+      let s : Kept ((n + 1) * l .row) t u = rw e (pass-kept l w n es count g p a t) in
+      rw (eh, eb) (pass-asks u l es count _ n 1 p (k .laid) (known-edges k) (k .staying p low) (omega arith) low (ready-kept s r))
 
-pub moves-step : (l : Layout) (w : Weighing) (v : View) (f : ℕ → Edge) (n stage i : ℕ) (t : List ℤ) → movesOf l w v f n stage (i + 1) t ≡ followOf l w (f i) (gainAt (v .entered) (f i .from)) (gainAt (v .staying) (f i .from)) n stage (movesOf l w v f n stage i t)
-unfolding movesOf
-moves-step l w v f n stage i t = rw (add-one i)
-
--- a turn of a loop over edges: what it asks, and what it gives
-module _ (l : Layout) (w : Weighing) (v : View) (f : ℕ → Edge) (n stage i : ℕ) (t : List ℤ) (e : Edge) (g h : ℤ)
-    (ee : e ≡ f i) (eg : g ≡ gainAt (v .entered) (f i .from)) (eh : h ≡ gainAt (v .staying) (f i .from)) where
-  pub moves-asks : {es : List Edge} {count : ℕ} → Known l v es count → f i .from < l .places → f i .to < l .places → stage ≤ 1 → Ready t l n → Follow t l e g h n stage
-  moves-asks k from to st r =
-      rw (ee, eg, eh)
-      (record {
-        laid = k .laid;
-        from = from;
-        to = to;
-        entered = k .entered (f i .from) from;
-        staying = k .staying (f i .from) from;
-        stages = st;
-        ready = r;
-      })
-
-  pub moves-more : (t₀ u : List ℤ) → t ≡ movesOf l w v f n stage i t₀ → u ≡ followOf l w e g h n stage t → u ≡ movesOf l w v f n stage (i + 1) t₀
-  moves-more t₀ u p q = q ∙ rw (ee, eg, eh, p) (sym (moves-step l w v f n stage i t₀))
+  pub place-moved : (u x : List ℤ) → u ≡ passOf l w es count g n p a t → x ≡ passOf l w es count h n p b u → x ≡ placeOf l w v es count n p t
+  unfolding placeOf
+  place-moved u x e f = f ∙ rw (e, eg, eh, ea, eb)
 
 -- ---- rows
-
-pub known-stays : {l : Layout} {v : View} {es : List Edge} {count : ℕ} → Known l v es count → Known l v [] 0
-known-stays k =
-    record {
-      laid = k .laid;
-      entered = k .entered;
-      staying = k .staying;
-      edges = omega arith;
-      froms = λ i h. absurd (omega arith);
-      tos = λ i h. absurd (omega arith);
-    }
 
 pub clear-ready : (l : Layout) (n : ℕ) (t u : List ℤ) → u ≡ cleared t ((n + 1) * l .row) ((n + 1) * l .row + l .row) → Ready t l n → Ready u l n
 clear-ready l n t u f r = rw f (ready-kept (marked-kept ((n + 1) * l .row) t ((n + 1) * l .row) _ (omega arith)) r)
 
-pub moves-ready : (l : Layout) (w : Weighing) (v : View) (f : ℕ → Edge) (n stage i : ℕ) (t u : List ℤ) → u ≡ movesOf l w v f n stage i t → Ready t l n → Ready u l n
-moves-ready l w v f n stage i t u e r = rw e (ready-kept (moves-kept l w v f n stage i t) r)
-
-pub row-is : (l : Layout) (w : Weighing) (v : View) (es : List Edge) (count n : ℕ) (t u x y : List ℤ) → u ≡ cleared t ((n + 1) * l .row) ((n + 1) * l .row + l .row) → x ≡ movesOf l w v still n 1 (l .places) u → y ≡ movesOf l w v (edgeIn es) n 0 count x → y ≡ rowOf l w v es count n t
+pub row-is : (l : Layout) (w : Weighing) (v : View) (es : List Edge) (count n : ℕ) (t u x : List ℤ) → u ≡ cleared t ((n + 1) * l .row) ((n + 1) * l .row + l .row) → x ≡ placesOf l w v es count n (l .places) u → x ≡ rowOf l w v es count n t
 unfolding rowOf
-row-is l w v es count n t u x y f g h = h ∙ rw (g, f)
+row-is l w v es count n t u x f g = g ∙ rw f
 
 pub rows-step : (l : Layout) (w : Weighing) (v : View) (es : List Edge) (count n : ℕ) (t : List ℤ) → rowsOf l w v es count (n + 1) t ≡ rowsOf l w v es count n (rowOf l w v es count n t)
 unfolding rowsOf

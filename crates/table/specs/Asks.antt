@@ -7,8 +7,10 @@ use lib.ListN.{length}
 use lib.IntN.{ℤ, natAbs}
 use Rattle.weighting.specs.Cell.{mark}
 use Rattle.pattern.specs.declared.Edge.{Edge}
+use Rattle.pattern.specs.Clocks.{Clocks}
 use Rattle.cells.specs.declared.Layout.{Layout}
 use Rattle.cells.specs.Layout.{cellsIn, Laid}
+use Rattle.cells.specs.Index.{Within}
 use Rattle.table.specs.declared.View.{View}
 use Rattle.table.specs.Moves.{cellAt, gainAt, edgeIn}
 
@@ -50,12 +52,27 @@ pub record Filed (t : List ℤ) (l : Layout) : Type 0 where
 pub record Bounded (t : List ℤ) (a n : ℕ) : Type 0 where
   pub at : (k : ℕ) → k < n → Sized (2 ^ 60) (cellAt t (a + k))
 
--- A block can be moved from `at` to `to`.
-pub record Along (t : List ℤ) (l : Layout) (g : ℤ) (at to : ℕ) : Type 0 where
+-- The edges lead into the layout.
+pub record Edges (l : Layout) (es : List Edge) (count : ℕ) : Type 0 where
+  pub few : count ≤ 32
+  pub tos : (i : ℕ) → i < count → edgeIn es i .to < l .places
+
+-- A worth with these clocks can be moved into row n + 1.
+pub record Moving (t : List ℤ) (l : Layout) (n : ℕ) (cs : Clocks) : Type 0 where
   pub laid : Laid l
+  pub low : n < l .high
+  pub inside : cellsIn l ≤ length t
+  pub within : Within (l .radices) cs
+
+-- The cells of the block at `at`, of length n and place p, can be moved.
+pub record Passing (t : List ℤ) (l : Layout) (es : List Edge) (count : ℕ) (g : ℤ) (n p at : ℕ) : Type 0 where
+  pub laid : Laid l
+  pub edges : Edges l es count
   pub gain : Sized 8000000 g
-  pub apart : at + l .block ≤ to
-  pub inside : to + l .block ≤ length t
+  pub low : n < l .high
+  pub place : p < l .places
+  pub apart : at + l .block ≤ (n + 1) * l .row
+  pub inside : cellsIn l ≤ length t
   pub bounded : Bounded t at (l .block)
 
 -- Row n can be moved.
@@ -63,16 +80,6 @@ pub record Ready (t : List ℤ) (l : Layout) (n : ℕ) : Type 0 where
   pub inside : cellsIn l ≤ length t
   pub low : n < l .high
   pub bounded : Bounded t (n * l .row) (l .row)
-
--- Row n can be moved along an edge.
-pub record Follow (t : List ℤ) (l : Layout) (e : Edge) (g h : ℤ) (n stage : ℕ) : Type 0 where
-  pub laid : Laid l
-  pub from : e .from < l .places
-  pub to : e .to < l .places
-  pub entered : Sized 8000000 g
-  pub staying : Sized 8000000 h
-  pub stages : stage ≤ 1
-  pub ready : Ready t l n
 
 -- The rows below `high` can be moved.
 pub record Rows (t : List ℤ) (l : Layout) : Type 0 where

@@ -3,6 +3,7 @@
 use Prim.Native.Nat.{ℕ, zero, suc, _+_, _-_, _*_}
 use mathlib.Core.List.{List, []}
 use mathlib.Core.Bool.{Bool, false, cond}
+use lib.Dec.{eqb}
 use lib.ListN.{getD, set, replicate}
 use lib.IntN.{ℤ, pos}
 use lib.Signed.{ltZ}
@@ -30,52 +31,22 @@ marked t a (suc n) = set (marked t a n) (a + n) mark
 abbrev pub cleared : List ℤ → ℕ → ℕ → List ℤ
 cleared t a b = marked t a (b - a)
 
+-- The first n turns of a loop over a table.
+unfoldable pub each : (ℕ → List ℤ → List ℤ) → ℕ → List ℤ → List ℤ
+each f zero t = t
+each f (suc n) t = f n (each f n t)
+
 -- ---- moves
 
 -- Cell j after one more worth was offered to it.
 abbrev pub offered : Weighing → List ℤ → ℕ → ℤ → List ℤ
 offered w t j v = set t j (cellOf (choose (weightingOf w .order) (heldIn (cellAt t j)) v))
 
--- Where the clocks of a cell go along the edge after one tick.
-abbrev pub goesTo : Layout → Edge → Clocks → ℕ
-goesTo l e cs = codeOf (l .radices) (afterResets e (ticked (l .radices) cs))
-
--- "then takes an edge out of that place whose guards all hold": after the tick.
-abbrev pub mayGo : Layout → Edge → Clocks → Bool
-mayGo l e cs = guardsHold (ticked (l .radices) cs) e
-
--- Cell k, with these clocks, of the block that starts at `at`, moved along e into the block that starts at `to`.
-unfoldable pub moved : Layout → Weighing → Edge → (gain : ℤ) → Clocks → (at to k : ℕ) → List ℤ → List ℤ
-moved l w e g cs at to k t =
-    cond (ltZ mark (cellAt t (at + k)))
-    (cond (mayGo l e cs) (offered w t (to + goesTo l e cs) (weightingOf w .combine (cellAt t (at + k)) g)) t)
-    t
-
--- The first n cells of the block.
-unfoldable pub alongOf : Layout → Weighing → Edge → (gain : ℤ) → (at to n : ℕ) → List ℤ → List ℤ
-alongOf l w e g at to zero t = t
-alongOf l w e g at to (suc k) t = moved l w e g (clocksAt (l .radices) k) at to k (alongOf l w e g at to k t)
-
--- The whole block, unless its place cannot be stayed in.
-unfoldable pub passOf : Layout → Weighing → Edge → (gain : ℤ) → (at to : ℕ) → List ℤ → List ℤ
-passOf l w e g at to t = cond (ltZ mark g) (alongOf l w e g at to (l .block) t) t
-
--- All cells of length n in the place that e leaves, moved to the stage given: those just entered, then those staying.
-unfoldable pub followOf : Layout → Weighing → Edge → (entered staying : ℤ) → (n stage : ℕ) → List ℤ → List ℤ
-followOf l w e g h n stage t =
-    passOf l w e h (blockAt l n 1 (e .from)) (blockAt l (n + 1) stage (e .to))
-    (passOf l w e g (blockAt l n 0 (e .from)) (blockAt l (n + 1) stage (e .to)) t)
-
--- What a tick gains in a place.
-abbrev pub gainAt : List ℤ → ℕ → ℤ
-gainAt gs p = getD gs p (pos 0)
-
--- The first i of several edges.
-unfoldable pub movesOf : Layout → Weighing → View → (ℕ → Edge) → (n stage : ℕ) → ℕ → List ℤ → List ℤ
-movesOf l w v f n stage zero t = t
-movesOf l w v f n stage (suc i) t =
-    followOf l w (f i) (gainAt (v .entered) (f i .from)) (gainAt (v .staying) (f i .from)) n stage
-    (movesOf l w v f n stage i t)
+-- A worth with these clocks, both a tick later, moved along e into the block that starts at `to`: "then takes an edge out
+-- of that place whose guards all hold; then sets the edge's reset clocks to 0".
+unfoldable pub moved : Layout → Weighing → Edge → (to : ℕ) → Clocks → (worth : ℤ) → List ℤ → List ℤ
+moved l w e to cs x t =
+    cond (guardsHold cs e) (offered w t (to + codeOf (l .radices) (afterResets e cs)) x) t
 
 -- Staying is an edge from the place to itself, without guards, that resets no clock.
 abbrev pub still : ℕ → Edge
@@ -84,13 +55,55 @@ still p = record { from = p; to = p; guards = replicate 4 noGuard; count = 0; re
 abbrev pub edgeIn : List Edge → ℕ → Edge
 edgeIn es i = getD es i (record { from = 0; to = 0; guards = []; count = 0; resets = [] })
 
+-- From place p along e into length n + 1, just entered, if e leaves p.
+unfoldable pub leaveOf : Layout → Weighing → (n p : ℕ) → Clocks → (worth : ℤ) → Edge → List ℤ → List ℤ
+leaveOf l w n p cs x e t = cond (eqb (e .from) p) (moved l w e (blockAt l (n + 1) 0 (e .to)) cs x t) t
+
+-- Along the first i edges.
+abbrev pub leavesOf : Layout → Weighing → List Edge → (n p : ℕ) → Clocks → (worth : ℤ) → (i : ℕ) → List ℤ → List ℤ
+leavesOf l w es n p cs x i t = each (λ k. leaveOf l w n p cs x (edgeIn es k)) i t
+
+-- All moves of one occupied cell of place p: it stays, then goes along each edge out of p.
+unfoldable pub spreadOf : Layout → Weighing → List Edge → (count n p : ℕ) → Clocks → (worth : ℤ) → List ℤ → List ℤ
+spreadOf l w es count n p cs x t =
+    leavesOf l w es n p cs x count (moved l w (still p) (blockAt l (n + 1) 1 p) cs x t)
+
+-- Cell k, with these clocks, of the block that starts at `at`: if it holds a worth, all its moves after one tick.
+unfoldable pub visitOf : Layout → Weighing → List Edge → (count : ℕ) → (gain : ℤ) → (n p at k : ℕ) → Clocks → List ℤ → List ℤ
+visitOf l w es count g n p at k cs t =
+    cond (ltZ mark (cellAt t (at + k)))
+    (spreadOf l w es count n p (ticked (l .radices) cs) (weightingOf w .combine (cellAt t (at + k)) g) t)
+    t
+
+-- The first m cells of the block.
+abbrev pub visitsOf : Layout → Weighing → List Edge → (count : ℕ) → (gain : ℤ) → (n p at m : ℕ) → List ℤ → List ℤ
+visitsOf l w es count g n p at m t =
+    each (λ k. visitOf l w es count g n p at k (clocksAt (l .radices) k)) m t
+
+-- The whole block, unless its place cannot be stayed in.
+unfoldable pub passOf : Layout → Weighing → List Edge → (count : ℕ) → (gain : ℤ) → (n p at : ℕ) → List ℤ → List ℤ
+passOf l w es count g n p at t = cond (ltZ mark g) (visitsOf l w es count g n p at (l .block) t) t
+
 -- ---- rows
+
+-- What a tick gains in a place.
+abbrev pub gainAt : List ℤ → ℕ → ℤ
+gainAt gs p = getD gs p (pos 0)
+
+-- The cells of length n in place p: those just entered, then those staying.
+unfoldable pub placeOf : Layout → Weighing → View → List Edge → (count n p : ℕ) → List ℤ → List ℤ
+placeOf l w v es count n p t =
+    passOf l w es count (gainAt (v .staying) p) n p (blockAt l n 1 p)
+    (passOf l w es count (gainAt (v .entered) p) n p (blockAt l n 0 p) t)
+
+-- The first m places.
+abbrev pub placesOf : Layout → Weighing → View → List Edge → (count n m : ℕ) → List ℤ → List ℤ
+placesOf l w v es count n m t = each (placeOf l w v es count n) m t
 
 -- Row n + 1 anew, from row n.
 unfoldable pub rowOf : Layout → Weighing → View → List Edge → (count n : ℕ) → List ℤ → List ℤ
 rowOf l w v es count n t =
-    movesOf l w v (edgeIn es) n 0 count
-    (movesOf l w v still n 1 (l .places) (cleared t ((n + 1) * l .row) ((n + 1) * l .row + l .row)))
+    placesOf l w v es count n (l .places) (cleared t ((n + 1) * l .row) ((n + 1) * l .row + l .row))
 
 -- Rows n to 1 made anew, each from the row below it, the longest first.
 unfoldable pub rowsOf : Layout → Weighing → View → List Edge → (count n : ℕ) → List ℤ → List ℤ

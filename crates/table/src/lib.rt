@@ -19,14 +19,15 @@ use weighting::combine;
 use weighting::unit;
 ghost use mathlib.Core.Path.{_≡_};
 ghost use mathlib.Core.Bool.{cond, true};
-ghost use mathlib.Core.List.{[]};
-ghost use Prim.Native.Nat.{_≤_, _<_};
+ghost use Prim.Native.Nat.{_+_, _≤_, _<_};
 ghost use lib.ListN.{length, set};
 ghost use lib.Signed.{ltZ};
 ghost use Rattle.weighting.specs.Cell.{mark};
-ghost use Rattle.table.specs.Moves.{cleared, offered, moved, alongOf, passOf, followOf, movesOf, still, edgeIn};
-ghost use Rattle.table.specs.Moves.{rowOf, rowsOf, begun, tickOf, openOf};
-ghost use Rattle.table.specs.Asks.{Known, Ticking, Filed, Along, Ready, Follow, Rows};
+ghost use Rattle.cells.specs.Layout.{Laid};
+ghost use Rattle.cells.specs.Index.{Within};
+ghost use Rattle.table.specs.Moves.{cleared, offered, still, moved, leaveOf, leavesOf, spreadOf, visitOf, visitsOf, passOf};
+ghost use Rattle.table.specs.Moves.{placeOf, placesOf, rowOf, rowsOf, begun, tickOf, openOf};
+ghost use Rattle.table.specs.Asks.{Known, Ticking, Filed, Edges, Moving, Passing, Ready, Rows};
 
 // What one tick gains in each place, by stage: just entered, or staying. MARK where the place cannot be stayed in.
 pub struct View {
@@ -54,82 +55,6 @@ fn offer(table: &mut [i64], w: Weighing, j: usize, worth: i64)
     table[j] = choose(w, old, worth);
 }
 
-// Cell k of the block at `at`, which has these clocks, moved along e into the block at `to`.
-fn turn(
-    table: &mut [i64],
-    l: Layout,
-    w: Weighing,
-    e: Edge,
-    gain: i64,
-    clocks: [u32; 4],
-    at: usize,
-    to: usize,
-    k: usize,
-)
-    requires { ⌜ (Along (now table) l gain at to) × (ltZ mark gain ≡ true) × (k < l .block) ⌝ }
-    ensures { λ _. ⌜ now (table .exit) ≡ moved l w e gain clocks at to k (now (table .entry)) ⌝ }
-{
-    let v = table[at + k];
-    if MARK < v {
-        let ticked = tick_clocks(l, clocks);
-        if guards_hold(e, ticked) {
-            let reset = after_resets(e, ticked);
-            let j = code(l, reset);
-            let grown = combine(w, v, gain);
-            offer(table, w, to + j, grown);
-        }
-    }
-}
-
-// The whole block; the clocks are carried along.
-fn along(table: &mut [i64], l: Layout, w: Weighing, e: Edge, gain: i64, at: usize, to: usize)
-    requires { ⌜ (Along (now table) l gain at to) × (ltZ mark gain ≡ true) ⌝ }
-    ensures { λ _. ⌜ now (table .exit) ≡ alongOf l w e gain at to (l .block) (now (table .entry)) ⌝ }
-{
-    let n = l.block;
-    let mut clocks: [u32; 4] = [0, 0, 0, 0];
-    let mut k: usize = 0;
-    while k < n {
-        turn(table, l, w, e, gain, clocks, at, to, k);
-        let next = next_clocks(l, clocks, k);
-        clocks = next;
-        k += 1;
-    }
-}
-
-// The block, unless its place cannot be stayed in.
-fn pass(table: &mut [i64], l: Layout, w: Weighing, e: Edge, gain: i64, at: usize, to: usize)
-    requires { ⌜ Along (now table) l gain at to ⌝ }
-    ensures { λ _. ⌜ now (table .exit) ≡ passOf l w e gain at to (now (table .entry)) ⌝ }
-{
-    if MARK < gain {
-        along(table, l, w, e, gain, at, to);
-    }
-}
-
-// The cells of length n in the place that e leaves, of both stages, moved to the stage given.
-fn follow(
-    table: &mut [i64],
-    l: Layout,
-    w: Weighing,
-    e: Edge,
-    entered: i64,
-    staying: i64,
-    n: usize,
-    stage: usize,
-)
-    requires { ⌜ Follow (now table) l e entered staying n stage ⌝ }
-    ensures { λ _. ⌜ now (table .exit) ≡ followOf l w e entered staying n stage (now (table .entry)) ⌝ }
-{
-    let from = e.from as usize;
-    let end = e.to as usize;
-    let a = block_at(l, n, 0, from);
-    let b = block_at(l, n, 1, from);
-    let to = block_at(l, n + 1, stage, end);
-    pass(table, l, w, e, entered, a, to);
-    pass(table, l, w, e, staying, b, to);
-}
-
 // Staying is an edge without guards and resets.
 fn stay(place: u8) -> Edge
     ensures { λ r. ⌜ r ≡ still place ⌝ }
@@ -148,24 +73,179 @@ fn stay(place: u8) -> Edge
     }
 }
 
-// Row n stays where it is.
-fn stays(table: &mut [i64], l: Layout, w: Weighing, v: View, n: usize)
-    requires { ⌜ (Known l v [] 0) × (Ready (now table) l n) ⌝ }
-    ensures { λ _. ⌜ now (table .exit) ≡ movesOf l w v still n 1 (l .places) (now (table .entry)) ⌝ }
+// A worth with these clocks, both a tick later, moved along e into the block at `to`.
+fn turn(table: &mut [i64], l: Layout, w: Weighing, e: Edge, to: usize, clocks: [u32; 4], worth: i64)
+    requires { ⌜ (Laid l) × (Within (l .radices) clocks) × (to + l .block ≤ length (now table)) ⌝ }
+    ensures { λ _. ⌜ now (table .exit) ≡ moved l w e to clocks worth (now (table .entry)) ⌝ }
 {
-    let m = l.places;
-    let mut p: usize = 0;
-    while p < m {
-        let e = stay(p as u8);
-        let entered = v.entered[p];
-        let staying = v.staying[p];
-        follow(table, l, w, e, entered, staying, n, 1);
-        p += 1;
+    if guards_hold(e, clocks) {
+        let reset = after_resets(e, clocks);
+        let j = code(l, reset);
+        offer(table, w, to + j, worth);
     }
 }
 
-// Row n goes along the edges.
+// From place p along e into length n + 1, if e leaves p.
+fn leave(
+    table: &mut [i64],
+    l: Layout,
+    w: Weighing,
+    e: Edge,
+    n: usize,
+    p: usize,
+    clocks: [u32; 4],
+    worth: i64,
+)
+    requires { ⌜ (Moving (now table) l n clocks) × (e .to < l .places) ⌝ }
+    ensures { λ _. ⌜ now (table .exit) ≡ leaveOf l w n p clocks worth e (now (table .entry)) ⌝ }
+{
+    let from = e.from as usize;
+    if from == p {
+        let end = e.to as usize;
+        let to = block_at(l, n + 1, 0, end);
+        turn(table, l, w, e, to, clocks, worth);
+    }
+}
+
+// Along each edge out of place p.
 fn leaves(
+    table: &mut [i64],
+    l: Layout,
+    w: Weighing,
+    edges: [Edge; 32],
+    count: usize,
+    n: usize,
+    p: usize,
+    clocks: [u32; 4],
+    worth: i64,
+)
+    requires { ⌜ (Moving (now table) l n clocks) × (Edges l edges count) ⌝ }
+    ensures { λ _. ⌜ now (table .exit) ≡ leavesOf l w edges n p clocks worth count (now (table .entry)) ⌝ }
+{
+    let mut i: usize = 0;
+    while i < count {
+        let e = edges[i];
+        leave(table, l, w, e, n, p, clocks, worth);
+        i += 1;
+    }
+}
+
+// All moves of one occupied cell: it stays in p, then goes along each edge out of p.
+fn spread(
+    table: &mut [i64],
+    l: Layout,
+    w: Weighing,
+    edges: [Edge; 32],
+    count: usize,
+    n: usize,
+    p: usize,
+    clocks: [u32; 4],
+    worth: i64,
+)
+    requires { ⌜ (Moving (now table) l n clocks) × (Edges l edges count) × (p < l .places) ⌝ }
+    ensures { λ _. ⌜ now (table .exit) ≡ spreadOf l w edges count n p clocks worth (now (table .entry)) ⌝ }
+{
+    let e = stay(p as u8);
+    let to = block_at(l, n + 1, 1, p);
+    turn(table, l, w, e, to, clocks, worth);
+    leaves(table, l, w, edges, count, n, p, clocks, worth);
+}
+
+// Cell k of the block at `at`, which has these clocks: looked at once, and moved if it holds a worth.
+fn visit(
+    table: &mut [i64],
+    l: Layout,
+    w: Weighing,
+    edges: [Edge; 32],
+    count: usize,
+    gain: i64,
+    n: usize,
+    p: usize,
+    at: usize,
+    k: usize,
+    clocks: [u32; 4],
+)
+    requires { ⌜ (Passing (now table) l edges count gain n p at) × (ltZ mark gain ≡ true) × (k < l .block) ⌝ }
+    ensures { λ _. ⌜ now (table .exit) ≡ visitOf l w edges count gain n p at k clocks (now (table .entry)) ⌝ }
+{
+    let v = table[at + k];
+    if MARK < v {
+        let ticked = tick_clocks(l, clocks);
+        let grown = combine(w, v, gain);
+        spread(table, l, w, edges, count, n, p, ticked, grown);
+    }
+}
+
+// All cells of the block; the clocks are carried along.
+fn visits(
+    table: &mut [i64],
+    l: Layout,
+    w: Weighing,
+    edges: [Edge; 32],
+    count: usize,
+    gain: i64,
+    n: usize,
+    p: usize,
+    at: usize,
+)
+    requires { ⌜ (Passing (now table) l edges count gain n p at) × (ltZ mark gain ≡ true) ⌝ }
+    ensures { λ _. ⌜ now (table .exit) ≡ visitsOf l w edges count gain n p at (l .block) (now (table .entry)) ⌝ }
+{
+    let size = l.block;
+    let mut clocks: [u32; 4] = [0, 0, 0, 0];
+    let mut k: usize = 0;
+    while k < size {
+        visit(table, l, w, edges, count, gain, n, p, at, k, clocks);
+        let next = next_clocks(l, clocks, k);
+        clocks = next;
+        k += 1;
+    }
+}
+
+// The block, unless its place cannot be stayed in.
+fn pass(
+    table: &mut [i64],
+    l: Layout,
+    w: Weighing,
+    edges: [Edge; 32],
+    count: usize,
+    gain: i64,
+    n: usize,
+    p: usize,
+    at: usize,
+)
+    requires { ⌜ Passing (now table) l edges count gain n p at ⌝ }
+    ensures { λ _. ⌜ now (table .exit) ≡ passOf l w edges count gain n p at (now (table .entry)) ⌝ }
+{
+    if MARK < gain {
+        visits(table, l, w, edges, count, gain, n, p, at);
+    }
+}
+
+// The cells of length n in place p, of both stages.
+fn place(
+    table: &mut [i64],
+    l: Layout,
+    w: Weighing,
+    v: View,
+    edges: [Edge; 32],
+    count: usize,
+    n: usize,
+    p: usize,
+)
+    requires { ⌜ (Known l v edges count) × (Ready (now table) l n) × (p < l .places) ⌝ }
+    ensures { λ _. ⌜ now (table .exit) ≡ placeOf l w v edges count n p (now (table .entry)) ⌝ }
+{
+    let entered = v.entered[p];
+    let staying = v.staying[p];
+    let a = block_at(l, n, 0, p);
+    let b = block_at(l, n, 1, p);
+    pass(table, l, w, edges, count, entered, n, p, a);
+    pass(table, l, w, edges, count, staying, n, p, b);
+}
+
+// Row n into row n + 1, place by place: each cell of row n is visited once.
+fn row(
     table: &mut [i64],
     l: Layout,
     w: Weighing,
@@ -175,16 +255,13 @@ fn leaves(
     n: usize,
 )
     requires { ⌜ (Known l v edges count) × (Ready (now table) l n) ⌝ }
-    ensures { λ _. ⌜ now (table .exit) ≡ movesOf l w v (edgeIn edges) n 0 count (now (table .entry)) ⌝ }
+    ensures { λ _. ⌜ now (table .exit) ≡ placesOf l w v edges count n (l .places) (now (table .entry)) ⌝ }
 {
-    let mut i: usize = 0;
-    while i < count {
-        let e = edges[i];
-        let from = e.from as usize;
-        let entered = v.entered[from];
-        let staying = v.staying[from];
-        follow(table, l, w, e, entered, staying, n, 0);
-        i += 1;
+    let m = l.places;
+    let mut p: usize = 0;
+    while p < m {
+        place(table, l, w, v, edges, count, n, p);
+        p += 1;
     }
 }
 
@@ -204,8 +281,7 @@ fn advance(
     let size = l.row;
     let at = (n + 1) * size;
     clear(table, at, at + size);
-    stays(table, l, w, v, n);
-    leaves(table, l, w, v, edges, count, n);
+    row(table, l, w, v, edges, count, n);
 }
 
 // All rows, the longest first.

@@ -22,16 +22,17 @@ use Rattle.weighting.proofs.Best.{IsBest-iff, choose-best}
 use Rattle.weighting.proofs.Cell.{heldIn-mark, heldIn-cellOf, heldIn-no-mark, choose-no-mark, above-mark, small-no-mark}
 use Rattle.weighting.proofs.Sizes.{combine-size}
 use Rattle.pattern.specs.declared.Edge.{Edge}
-use Rattle.pattern.specs.Clocks.{Clocks}
+use Rattle.pattern.specs.Clocks.{Clocks, guardsHold, afterResets}
 use Rattle.cells.specs.declared.Layout.{Layout}
 use Rattle.cells.specs.Layout.{Laid, cellsIn}
-use Rattle.cells.specs.Index.{clocksAt, blockAt, Placed}
-use Rattle.cells.proofs.Blocks.{row-next, block-low, below-block, row-fits}
+use Rattle.cells.specs.Index.{codeOf, clocksAt, ticked, Within, blockAt}
+use Rattle.cells.proofs.Digits.{coded, ticked-within, reset-within}
+use Rattle.cells.proofs.Blocks.{row-next, block-low, row-fits}
 use Rattle.table.specs.declared.View.{View}
-use Rattle.table.specs.Moves.{cellAt, marked, cleared, offered, goesTo, mayGo, moved, alongOf, passOf, followOf, gainAt, movesOf, still, edgeIn, rowOf, rowsOf}
-use Rattle.table.specs.Asks.{Sized, Known, Bounded, Along, Ready, Follow}
-use Rattle.table.proofs.Kept.{Kept, kept-trans, along-kept, pass-kept, moves-kept, marked-kept, marked-long, row-kept}
-use Rattle.table.proofs.Steps.{sized-in, goes-lt, bounded-kept, ready-kept, pass-asks, bounded-from}
+use Rattle.table.specs.Moves.{cellAt, marked, cleared, each, offered, moved, still, edgeIn, leaveOf, leavesOf, spreadOf, visitOf, visitsOf, passOf, gainAt, placeOf, placesOf, rowOf, rowsOf}
+use Rattle.table.specs.Asks.{Sized, Known, Bounded, Passing, Ready}
+use Rattle.table.proofs.Kept.{Kept, kept-trans, kept-each, turn-kept, leave-kept, visit-kept, pass-kept, place-kept, marked-kept, marked-long, row-kept}
+use Rattle.table.proofs.Steps.{sized-in, bounded-kept, pass-asks, known-edges, bounded-from}
 use Rattle.table_laws.specs.Offers.{Moves, Passes, stageOf, gainsOf, Follows, Goes, RowOffers}
 
 -- cell j of u holds the best of what cell j of t held and what has Q
@@ -78,6 +79,33 @@ module _ (w : Weighing) (j : ℕ) where
           rw (getD-set-other t a j y (pos 0) f)
           (IsBest-iff (weightingOf w .order) (λ z p. inl p) (λ z. ⊎-elim (λ p. p) (λ (q : (j ≡ a) × (z ≡ x)). absurd (f (q .0)))) (heldIn (cellAt t j)) h)
 
+-- one of the first n has it
+record Any (n : ℕ) (Q : ℕ → ℤ → Type 0) (x : ℤ) : Type 0 where
+  which : ℕ
+  low : which < n
+  has : Q which x
+
+-- a loop whose turns leave the cells below b as they were
+module _ (w : Weighing) (j b : ℕ) (f : ℕ → List ℤ → List ℤ) (kept : (i : ℕ) (t : List ℤ) → Kept b t (f i t)) (Q : ℕ → ℤ → Type 0) (t : List ℤ) where
+  offers-each : (m : ℕ) → ((i : ℕ) (u : List ℤ) → i < m → Kept b t u → Offers w u (f i u) j (Q i)) → Offers w t (each f m t) j (Any m Q)
+  unfolding each
+  offers-each zero h = offers-none w j t (Any zero Q) (λ x p. let z = p .low in omega arith)
+  offers-each (suc m) h =
+      offers-as w j t (f m (each f m t)) (λ x. Any m Q x ⊎ Q m x) (Any (suc m) Q)
+      (λ x. ⊎-elim (λ p. record { which = p .which; low = (let z = p .low in omega arith); has = p .has }) (λ q. record { which = m; low = omega arith; has = q }))
+      (λ x p. split x p (ltb (p .which) m) refl)
+      (offers-then w j t (each f m t) (f m (each f m t)) (Any m Q) (Q m)
+      (offers-each m (λ i u l. h i u (omega arith)))
+      (h m (each f m t) (omega arith) (kept-each b f kept m t)))
+    where
+      split : (x : ℤ) (p : Any (suc m) Q x) (c : Bool) → ltb (p .which) m ≡ c → Any m Q x ⊎ Q m x
+      split x p true q = inl (record { which = p .which; low = ltb-true (p .which) m q; has = p .has })
+      split x p false q =
+          let z = p .low in
+          let y = ltb-false (p .which) m q in
+          let e : p .which ≡ m = omega arith in
+          inr (subst (λ (i : ℕ). Q i x) e (p .has))
+
 -- ---- what is held
 
 pub sized-held : {k : ℕ} {z : ℤ} → k < 2 ^ 63 → Sized k z → ltZ mark z ≡ false → z ≡ mark
@@ -94,15 +122,91 @@ not-held {z} {x} e h = Option·none-ne-some x (sym heldIn-mark ∙ ap heldIn (sy
 pub true-false : {b : Bool} → b ≡ true → b ≡ false → ⊥
 true-false p q = let n : _≡_ {A = ℕ} 0 1 = cc in omega arith
 
+-- ---- one worth
+
+-- x, with these clocks after the tick, lands along e on cell j as y
+record Lands (l : Layout) (e : Edge) (to : ℕ) (cs : Clocks) (x : ℤ) (j : ℕ) (y : ℤ) : Type 0 where
+  goes : guardsHold cs e ≡ true
+  lands : j ≡ to + codeOf (l .radices) (afterResets e cs)
+  is : y ≡ x
+
+-- the same along edge i, if it leaves p
+record Leaves (l : Layout) (es : List Edge) (n p : ℕ) (cs : Clocks) (x : ℤ) (j i : ℕ) (y : ℤ) : Type 0 where
+  from : edgeIn es i .from ≡ p
+  lands : Lands l (edgeIn es i) (blockAt l (n + 1) 0 (edgeIn es i .to)) cs x j y
+
+module _ (l : Layout) (w : Weighing) (cs : Clocks) (x : ℤ) (j : ℕ) (worth : x ≡ mark → ⊥) where
+  moved-offers : (e : Edge) (to : ℕ) (t : List ℤ) → j < length t → Offers w t (moved l w e to cs x t) j (Lands l e to cs x j)
+  unfolding moved
+  moved-offers e to t low = by (guardsHold cs e) refl
+    where
+      by : (b : Bool) → guardsHold cs e ≡ b → Offers w t (cond b (offered w t (to + codeOf (l .radices) (afterResets e cs)) x) t) j (Lands l e to cs x j)
+      by false q = offers-none w j t (Lands l e to cs x j) (λ y o. true-false (o .goes) q)
+      by true q =
+          offers-as w j t (offered w t (to + codeOf (l .radices) (afterResets e cs)) x) (λ y. (j ≡ to + codeOf (l .radices) (afterResets e cs)) × (y ≡ x)) (Lands l e to cs x j)
+          (λ y p. record { goes = q; lands = p .0; is = p .1 })
+          (λ y o. (o .lands, o .is))
+          (offers-one w j t (to + codeOf (l .radices) (afterResets e cs)) x low worth)
+
+  module _ (es : List Edge) (n p : ℕ) where
+    leave-offers : (i : ℕ) (t : List ℤ) → j < length t → Offers w t (leaveOf l w n p cs x (edgeIn es i) t) j (Leaves l es n p cs x j i)
+    unfolding leaveOf
+    leave-offers i t low = by (eqb (edgeIn es i .from) p) refl
+      where
+        by : (b : Bool) → eqb (edgeIn es i .from) p ≡ b → Offers w t (cond b (moved l w (edgeIn es i) (blockAt l (n + 1) 0 (edgeIn es i .to)) cs x t) t) j (Leaves l es n p cs x j i)
+        by false q = offers-none w j t (Leaves l es n p cs x j i) (λ y o. eqb-false (edgeIn es i .from) p q (o .from))
+        by true q =
+            offers-as w j t (moved l w (edgeIn es i) (blockAt l (n + 1) 0 (edgeIn es i .to)) cs x t) (Lands l (edgeIn es i) (blockAt l (n + 1) 0 (edgeIn es i .to)) cs x j) (Leaves l es n p cs x j i)
+            (λ y o. record { from = eqb-true (edgeIn es i .from) p q; lands = o })
+            (λ y o. o .lands)
+            (moved-offers (edgeIn es i) (blockAt l (n + 1) 0 (edgeIn es i .to)) t low)
+
+    spread-offers : (count : ℕ) (t : List ℤ) → j < length t → Offers w t (spreadOf l w es count n p cs x t) j (λ y. Lands l (still p) (blockAt l (n + 1) 1 p) cs x j y ⊎ Any count (Leaves l es n p cs x j) y)
+    unfolding spreadOf
+    spread-offers count t low =
+        offers-then w j t u (leavesOf l w es n p cs x count u) (Lands l (still p) (blockAt l (n + 1) 1 p) cs x j) (Any count (Leaves l es n p cs x j))
+        (moved-offers (still p) (blockAt l (n + 1) 1 p) t low)
+        (offers-each w j ((n + 1) * l .row) (λ i. leaveOf l w n p cs x (edgeIn es i)) (λ i. leave-kept l w n p cs x (edgeIn es i)) (Leaves l es n p cs x j) u count
+        (λ i z h k. leave-offers i z (let e = k .long in let f = kept .long in omega arith)))
+      where
+        u : List ℤ
+        u = moved l w (still p) (blockAt l (n + 1) 1 p) cs x t
+
+        kept : Kept ((n + 1) * l .row) t u
+        kept = turn-kept l w n (still p) 1 cs x t
+
 -- ---- one cell, a block
 
-module _ (l : Layout) (w : Weighing) (e : Edge) (g : ℤ) (at to : ℕ) (size : natAbs g ≤ 8000000) (gives : heldIn g ≡ some g) where
-  one-offers : (t u : List ℤ) (k j : ℕ) → cellAt u (at + k) ≡ cellAt t (at + k) → Sized (2 ^ 60) (cellAt t (at + k)) → j < length u → Offers w u (moved l w e g (clocksAt (l .radices) k) at to k u) j (Moves l w e g at to t k j)
-  unfolding moved
-  one-offers t u k j same sized low = by (ltZ mark (cellAt u (at + k))) refl (mayGo l e (clocksAt (l .radices) k)) refl
+-- cell k of the block at `at`, in place p, offers it: by staying, or along an edge out of p
+record Leads (l : Layout) (w : Weighing) (es : List Edge) (g : ℤ) (n p at : ℕ) (t : List ℤ) (k j i : ℕ) (x : ℤ) : Type 0 where
+  from : edgeIn es i .from ≡ p
+  moves : Moves l w (edgeIn es i) g at (blockAt l (n + 1) 0 (edgeIn es i .to)) t k j x
+
+abbrev Visits : Layout → Weighing → List Edge → (count : ℕ) → ℤ → (n p at : ℕ) → List ℤ → (j k : ℕ) → ℤ → Type 0
+Visits l w es count g n p at t j k x =
+    Moves l w (still p) g at (blockAt l (n + 1) 1 p) t k j x ⊎ Any count (Leads l w es g n p at t k j) x
+
+module _ (l : Layout) (w : Weighing) (es : List Edge) (count : ℕ) (g : ℤ) (n p at : ℕ) (t : List ℤ) (j : ℕ) (size : natAbs g ≤ 8000000) (gives : heldIn g ≡ some g) where
+  -- where a cell holds v, it offers what v lands as
+  module _ (k : ℕ) (v : ℤ) (had : heldIn (cellAt t (at + k)) ≡ some v) where
+    to-moves : (e : Edge) (to : ℕ) (y : ℤ) → Lands l e to (ticked (l .radices) (clocksAt (l .radices) k)) (weightingOf w .combine v g) j y → Moves l w e g at to t k j y
+    to-moves e to y o = record { had = v; holds = had; gain = g; gains = gives; goes = o .goes; lands = o .lands; is = o .is }
+
+    of-moves : (e : Edge) (to : ℕ) (y : ℤ) → Moves l w e g at to t k j y → Lands l e to (ticked (l .radices) (clocksAt (l .radices) k)) (weightingOf w .combine v g) j y
+    of-moves e to y o =
+        record {
+          goes = o .goes;
+          lands = o .lands;
+          is = o .is ∙ ap (λ (z : ℤ). weightingOf w .combine z (o .gain)) (sym (Option·some-injective v (o .had) (sym had ∙ o .holds)))
+              ∙ ap (λ (z : ℤ). weightingOf w .combine v z) (sym (Option·some-injective g (o .gain) (sym gives ∙ o .gains)));
+        }
+
+  visit-offers : (k : ℕ) (u : List ℤ) → cellAt u (at + k) ≡ cellAt t (at + k) → Sized (2 ^ 60) (cellAt t (at + k)) → j < length u → Offers w u (visitOf l w es count g n p at k (clocksAt (l .radices) k) u) j (Visits l w es count g n p at t j k)
+  unfolding visitOf
+  visit-offers k u same sized low = by (ltZ mark (cellAt u (at + k))) refl
     where
       cs : Clocks
-      cs = clocksAt (l .radices) k
+      cs = ticked (l .radices) (clocksAt (l .radices) k)
 
       v : ℤ
       v = cellAt u (at + k)
@@ -110,58 +214,98 @@ module _ (l : Layout) (w : Weighing) (e : Edge) (g : ℤ) (at to : ℕ) (size : 
       x : ℤ
       x = weightingOf w .combine (cellAt u (at + k)) g
 
-      by : (a : Bool) → ltZ mark v ≡ a → (b : Bool) → mayGo l e cs ≡ b → Offers w u (cond a (cond b (offered w u (to + goesTo l e cs) x) u) u) j (Moves l w e g at to t k j)
-      by false m b q =
+      by : (a : Bool) → ltZ mark v ≡ a → Offers w u (cond a (spreadOf l w es count n p cs x u) u) j (Visits l w es count g n p at t j k)
+      by false m =
           let h : cellAt t (at + k) ≡ mark = sized-held (omega arith) sized (rw same at m) in
-          offers-none w j u (Moves l w e g at to t k j) (λ y o. not-held h (o .holds))
-      by true m false q = offers-none w j u (Moves l w e g at to t k j) (λ y o. true-false (o .goes) q)
-      by true m true q =
+          offers-none w j u (Visits l w es count g n p at t j k) (λ y. ⊎-elim (λ o. not-held h (o .holds)) (λ o. not-held h (o .has .moves .holds)))
+      by true m =
           let small : natAbs (cellAt u (at + k)) ≤ 2 ^ 60 = rw same (sized-in sized (rw same at m)) in
           let held : heldIn (cellAt u (at + k)) ≡ some (cellAt u (at + k)) = above-mark (cellAt u (at + k)) m in
           let had : heldIn (cellAt t (at + k)) ≡ some (cellAt u (at + k)) = ap heldIn (sym same) ∙ held in
           let worth = small-no-mark x (omega (arith, combine-size w (cellAt u (at + k)) g)) in
-          offers-as w j u (offered w u (to + goesTo l e cs) x) (λ y. (j ≡ to + goesTo l e cs) × (y ≡ x)) (Moves l w e g at to t k j)
-          (λ y p. record { had = cellAt u (at + k); holds = had; gain = g; gains = gives; goes = q; lands = p .0; is = p .1 })
-          (λ y o. (
-            o .lands,
-            o .is ∙ ap (λ (z : ℤ). weightingOf w .combine z (o .gain)) (sym (Option·some-injective (cellAt u (at + k)) (o .had) (sym had ∙ o .holds)))
-                ∙ ap (λ (z : ℤ). weightingOf w .combine (cellAt u (at + k)) z) (sym (Option·some-injective g (o .gain) (sym gives ∙ o .gains))),
-          ))
-          (offers-one w j u (to + goesTo l e cs) x low worth)
+          offers-as w j u (spreadOf l w es count n p cs x u) (λ y. Lands l (still p) (blockAt l (n + 1) 1 p) cs x j y ⊎ Any count (Leaves l es n p cs x j) y) (Visits l w es count g n p at t j k)
+          (λ y. ⊎-elim (λ o. inl (to-moves k v had (still p) _ y o)) (λ o. inr (record { which = o .which; low = o .low; has = record { from = o .has .from; moves = to-moves k v had (edgeIn es (o .which)) _ y (o .has .lands) } })))
+          (λ y. ⊎-elim (λ o. inl (of-moves k v had (still p) _ y o)) (λ o. inr (record { which = o .which; low = o .low; has = record { from = o .has .from; lands = of-moves k v had (edgeIn es (o .which)) _ y (o .has .moves) } })))
+          (spread-offers l w cs x j worth es n p count u low)
 
-  pub along-offers : (t : List ℤ) (n j : ℕ) → at + n ≤ to → Bounded t at n → j < length t → Offers w t (alongOf l w e g at to n t) j (Passes l w e g at to n t j)
-  unfolding alongOf
-  along-offers t zero j h o low =
-      offers-none w j t (Passes l w e g at to zero t j) (λ x p. let z = p .low in omega arith)
-  along-offers t (suc n) j h o low =
-      let kept = along-kept to l w e g at to n t (omega arith) in
-      let long = kept .long in
-      offers-as w j t (moved l w e g (clocksAt (l .radices) n) at to n (alongOf l w e g at to n t)) (λ x. Passes l w e g at to n t j x ⊎ Moves l w e g at to t n j x) (Passes l w e g at to (suc n) t j)
-      (λ x. ⊎-elim (λ p. record { cell = p .cell; low = (let z = p .low in omega arith); moves = p .moves }) (λ m. record { cell = n; low = omega arith; moves = m }))
-      (λ x p. split x p (ltb (p .cell) n) refl)
-      (offers-then w j t (alongOf l w e g at to n t) (moved l w e g (clocksAt (l .radices) n) at to n (alongOf l w e g at to n t)) (Passes l w e g at to n t j) (Moves l w e g at to t n j)
-      (along-offers t n j (omega arith) (record { at = λ k m. o .at k (omega arith) }) low)
-      (one-offers t (alongOf l w e g at to n t) n j (kept .same (at + n) (omega arith)) (o .at n (omega arith)) (omega arith)))
-    where
-      split : (x : ℤ) (p : Passes l w e g at to (suc n) t j x) (b : Bool) → ltb (p .cell) n ≡ b → Passes l w e g at to n t j x ⊎ Moves l w e g at to t n j x
-      split x p true q = inl (record { cell = p .cell; low = ltb-true (p .cell) n q; moves = p .moves })
-      split x p false q =
-          let z = p .low in
-          let y = ltb-false (p .cell) n q in
-          let f : p .cell ≡ n = omega arith in
-          inr (subst (λ (k : ℕ). Moves l w e g at to t k j x) f (p .moves))
+  -- from any table u that has the row as t has it
+  visits-offers : (m : ℕ) (u : List ℤ) → Kept ((n + 1) * l .row) t u → at + m ≤ (n + 1) * l .row → Bounded t at m → j < length t → Offers w u (visitsOf l w es count g n p at m u) j (Any m (Visits l w es count g n p at t j))
+  visits-offers m u kept h o low =
+      offers-each w j ((n + 1) * l .row) (λ k. visitOf l w es count g n p at k (clocksAt (l .radices) k)) (λ k. visit-kept l w n es count g p at k (clocksAt (l .radices) k)) (Visits l w es count g n p at t j) u m
+      (λ k z i z-kept. let both = kept-trans kept z-kept in let e = both .long in visit-offers k z (both .same (at + k) (omega arith)) (o .at k i) (omega arith))
 
-pub pass-offers : (l : Layout) (w : Weighing) (e : Edge) (g : ℤ) (at to : ℕ) (t : List ℤ) (j : ℕ) → Along t l g at to → j < length t → Offers w t (passOf l w e g at to t) j (Passes l w e g at to (l .block) t j)
+pass-offers : (l : Layout) (w : Weighing) (es : List Edge) (count : ℕ) (g : ℤ) (n p at : ℕ) (t u : List ℤ) (j : ℕ) → Kept ((n + 1) * l .row) t u → Passing t l es count g n p at → j < length t → Offers w u (passOf l w es count g n p at u) j (Any (l .block) (Visits l w es count g n p at t j))
 unfolding passOf
-pass-offers l w e g at to t j a low = by (ltZ mark g) refl
+pass-offers l w es count g n p at t u j kept a low = by (ltZ mark g) refl
   where
-    by : (b : Bool) → ltZ mark g ≡ b → Offers w t (cond b (alongOf l w e g at to (l .block) t) t) j (Passes l w e g at to (l .block) t j)
-    by true m = along-offers l w e g at to (sized-in (a .gain) m) (above-mark g m) t (l .block) j (a .apart) (a .bounded) low
+    by : (b : Bool) → ltZ mark g ≡ b → Offers w u (cond b (visitsOf l w es count g n p at (l .block) u) u) j (Any (l .block) (Visits l w es count g n p at t j))
+    by true m = visits-offers l w es count g n p at t j (sized-in (a .gain) m) (above-mark g m) (l .block) u kept (a .apart) (a .bounded) low
     by false m =
         let h : g ≡ mark = sized-held (omega arith) (a .gain) m in
-        offers-none w j t (Passes l w e g at to (l .block) t j) (λ x p. not-held h (p .moves .gains))
+        offers-none w j u (Any (l .block) (Visits l w es count g n p at t j)) (λ x q. ⊎-elim (λ o. not-held h (o .gains)) (λ o. not-held h (o .has .moves .gains)) (q .has))
 
--- ---- an edge, all edges
+-- ---- a place, a row
+
+module _ (l : Layout) (w : Weighing) (v : View) (es : List Edge) (count n : ℕ) (t : List ℤ) (j : ℕ) where
+  -- a cell of place p, of length n and this stage, offers it
+  abbrev Staged : Bool → (p : ℕ) → ℤ → Type 0
+  Staged b p = Any (l .block) (Visits l w es count (gainAt (gainsOf v b) p) n p (blockAt l n (stageOf b) p) t j)
+
+  abbrev Placed : (p : ℕ) → ℤ → Type 0
+  Placed p x = Staged true p x ⊎ Staged false p x
+
+  module _ (k : Known l v es count) (r : Ready t l n) (low : j < length t) where
+    place-offers : (p : ℕ) (u : List ℤ) → p < l .places → Kept ((n + 1) * l .row) t u → Offers w u (placeOf l w v es count n p u) j (Placed p)
+    unfolding placeOf
+    place-offers p u h kept =
+        offers-then w j u z (passOf l w es count (gainAt (v .staying) p) n p (blockAt l n 1 p) z) (Staged true p) (Staged false p)
+        (pass-offers l w es count (gainAt (v .entered) p) n p (blockAt l n 0 p) t u j kept (pass-asks t l es count _ n 0 p (k .laid) (known-edges k) (k .entered p h) (omega arith) h r) low)
+        (pass-offers l w es count (gainAt (v .staying) p) n p (blockAt l n 1 p) t z j (kept-trans kept (pass-kept l w n es count (gainAt (v .entered) p) p (blockAt l n 0 p) u)) (pass-asks t l es count _ n 1 p (k .laid) (known-edges k) (k .staying p h) (omega arith) h r) low)
+      where
+        z : List ℤ
+        z = passOf l w es count (gainAt (v .entered) p) n p (blockAt l n 0 p) u
+
+    places-offers : (u : List ℤ) → Kept ((n + 1) * l .row) t u → Offers w u (placesOf l w v es count n (l .places) u) j (Any (l .places) Placed)
+    places-offers u kept =
+        offers-each w j ((n + 1) * l .row) (placeOf l w v es count n) (place-kept l w n es count v) Placed u (l .places)
+        (λ p z h z-kept. place-offers p z h (kept-trans kept z-kept))
+
+    -- place by place or edge by edge, a row offers the same
+    to-row : (x : ℤ) → Any (l .places) Placed x → RowOffers l w v es count n t j x
+    to-row x a = ⊎-elim (stage true (a .which) (a .low)) (stage false (a .which) (a .low)) (a .has)
+      where
+        stage : (b : Bool) (p : ℕ) → p < l .places → Staged b p x → RowOffers l w v es count n t j x
+        stage b p h s =
+            ⊎-elim (λ m. inl (record { which = p; low = h; follows = record { from = b; passes = record { cell = s .which; low = s .low; moves = m } } }))
+            (λ m. inr (record {
+              which = m .which;
+              low = m .low;
+              follows = record {
+                from = b;
+                passes = record {
+                  cell = s .which;
+                  low = s .low;
+                  moves = subst (λ (q : ℕ). Moves l w (edgeIn es (m .which)) (gainAt (gainsOf v b) q) (blockAt l n (stageOf b) q) (blockAt l (n + 1) 0 (edgeIn es (m .which) .to)) t (s .which) j x) (sym (m .has .from)) (m .has .moves);
+                };
+              };
+            })) (s .has)
+
+    of-row : (x : ℤ) → RowOffers l w v es count n t j x → Any (l .places) Placed x
+    of-row x =
+        ⊎-elim (λ o. record { which = o .which; low = o .low; has = staged (o .follows .from) (o .which) (record { which = o .follows .passes .cell; low = o .follows .passes .low; has = inl (o .follows .passes .moves) }) })
+        (λ o. record {
+          which = edgeIn es (o .which) .from;
+          low = k .froms (o .which) (o .low);
+          has = staged (o .follows .from) (edgeIn es (o .which) .from) (record {
+            which = o .follows .passes .cell;
+            low = o .follows .passes .low;
+            has = inr (record { which = o .which; low = o .low; has = record { from = refl; moves = o .follows .passes .moves } });
+          });
+        })
+      where
+        staged : (b : Bool) (p : ℕ) → Staged b p x → Placed p x
+        staged true p s = inl s
+        staged false p s = inr s
 
 -- what is offered does not change where the row it comes from is kept
 passes-kept : (l : Layout) (w : Weighing) (e : Edge) (g : ℤ) (at to n b : ℕ) (t u : List ℤ) (j : ℕ) (x : ℤ) → at + n ≤ b → ((i : ℕ) → i < b → cellAt u i ≡ cellAt t i) → Passes l w e g at to n u j x → Passes l w e g at to n t j x
@@ -182,59 +326,6 @@ passes-kept l w e g at to n b t u j x h same p =
       };
     }
 
-passes-back : (l : Layout) (w : Weighing) (e : Edge) (g : ℤ) (at to n b : ℕ) (t u : List ℤ) (j : ℕ) (x : ℤ) → at + n ≤ b → ((i : ℕ) → i < b → cellAt u i ≡ cellAt t i) → Passes l w e g at to n t j x → Passes l w e g at to n u j x
-passes-back l w e g at to n b t u j x h same = passes-kept l w e g at to n b u t j x h (λ i low. sym (same i low))
-
-pub follow-offers : (l : Layout) (w : Weighing) (v : View) (e : Edge) (n stage : ℕ) (t : List ℤ) (j : ℕ) → Follow t l e (gainAt (v .entered) (e .from)) (gainAt (v .staying) (e .from)) n stage → j < length t → Offers w t (followOf l w e (gainAt (v .entered) (e .from)) (gainAt (v .staying) (e .from)) n stage t) j (Follows l w v e n stage t j)
-unfolding followOf
-follow-offers l w v e n stage t j f low =
-    offers-as w j t z (λ x. Passes l w e g (blockAt l n 0 p) to (l .block) t j x ⊎ Passes l w e h (blockAt l n 1 p) to (l .block) t j x) (Follows l w v e n stage t j)
-    (λ x. ⊎-elim (λ q. record { from = true; passes = q }) (λ q. record { from = false; passes = q }))
-    (λ x q. split x (q .from) (q .passes))
-    (offers-then w j t u z (Passes l w e g (blockAt l n 0 p) to (l .block) t j) (Passes l w e h (blockAt l n 1 p) to (l .block) t j)
-    (pass-offers l w e g (blockAt l n 0 p) to t j first low)
-    (offers-as w j u z (Passes l w e h (blockAt l n 1 p) to (l .block) u j) (Passes l w e h (blockAt l n 1 p) to (l .block) t j)
-    (λ x. passes-kept l w e h (blockAt l n 1 p) to (l .block) ((n + 1) * l .row) t u j x inside (kept .same))
-    (λ x. passes-back l w e h (blockAt l n 1 p) to (l .block) ((n + 1) * l .row) t u j x inside (kept .same))
-    (pass-offers l w e h (blockAt l n 1 p) to u j second (rw (kept .long) low))))
-  where
-    g : ℤ
-    g = gainAt (v .entered) (e .from)
-
-    h : ℤ
-    h = gainAt (v .staying) (e .from)
-
-    p : ℕ
-    p = e .from
-
-    to : ℕ
-    to = blockAt l (n + 1) stage (e .to)
-
-    u : List ℤ
-    u = passOf l w e g (blockAt l n 0 p) to t
-
-    z : List ℤ
-    z = passOf l w e h (blockAt l n 1 p) to u
-
-    kept : Kept ((n + 1) * l .row) t u
-    kept = pass-kept ((n + 1) * l .row) l w e g (blockAt l n 0 p) to t (below-block l (n + 1) stage (e .to))
-
-    first : Along t l g (blockAt l n 0 p) to
-    first = pass-asks t l g n 0 p stage (e .to) (f .laid) (f .entered) (omega arith) (f .from) (f .stages) (f .to) (f .ready)
-
-    second : Along u l h (blockAt l n 1 p) to
-    second = pass-asks u l h n 1 p stage (e .to) (f .laid) (f .staying) (omega arith) (f .from) (f .stages) (f .to) (ready-kept kept (f .ready))
-
-    inside : blockAt l n 1 p + l .block ≤ (n + 1) * l .row
-    inside =
-        let low′ = f .ready .low in
-        let q : Placed l n 1 p = record { laid = f .laid; low = omega arith; stages = omega arith; place = f .from } in
-        omega (arith, block-low l n 1 p q, row-next n (l .row))
-
-    split : (x : ℤ) (b : Bool) → Passes l w e (gainAt (gainsOf v b) p) (blockAt l n (stageOf b) p) to (l .block) t j x → Passes l w e g (blockAt l n 0 p) to (l .block) t j x ⊎ Passes l w e h (blockAt l n 1 p) to (l .block) t j x
-    split x true q = inl q
-    split x false q = inr q
-
 -- the block that e leaves lies in row n
 from-low : (l : Layout) (n : ℕ) (b : Bool) (p : ℕ) → Laid l → n ≤ l .high → p < l .places → blockAt l n (stageOf b) p + l .block ≤ (n + 1) * l .row
 from-low l n true p laid low h = omega (arith, block-low l n 0 p (record { laid = laid; low = low; stages = omega arith; place = h }), row-next n (l .row))
@@ -248,61 +339,6 @@ follows-kept l w v e n stage b t u j x laid low h le same q =
 goes-kept : (l : Layout) (w : Weighing) (v : View) (f : ℕ → Edge) (n stage m b : ℕ) (t u : List ℤ) (j : ℕ) (x : ℤ) → Laid l → n ≤ l .high → ((i : ℕ) → i < m → f i .from < l .places) → (n + 1) * l .row ≤ b → ((i : ℕ) → i < b → cellAt u i ≡ cellAt t i) → Goes l w v f n stage m u j x → Goes l w v f n stage m t j x
 goes-kept l w v f n stage m b t u j x laid low h le same q =
     record { which = q .which; low = q .low; follows = follows-kept l w v (f (q .which)) n stage b t u j x laid low (h (q .which) (q .low)) le same (q .follows) }
-
--- what moves-offers asks of the edges
-pub record Edges (l : Layout) (f : ℕ → Edge) (m : ℕ) : Type 0 where
-  pub froms : (i : ℕ) → i < m → f i .from < l .places
-  pub tos : (i : ℕ) → i < m → f i .to < l .places
-
-pub moves-offers : (l : Layout) (w : Weighing) (v : View) (es : List Edge) (count : ℕ) (f : ℕ → Edge) (n stage m : ℕ) (t : List ℤ) (j : ℕ) → Known l v es count → Edges l f m → stage ≤ 1 → Ready t l n → j < length t → Offers w t (movesOf l w v f n stage m t) j (Goes l w v f n stage m t j)
-unfolding movesOf
-moves-offers l w v es count f n stage zero t j k h st r low =
-    offers-none w j t (Goes l w v f n stage zero t j) (λ x p. let z = p .low in omega arith)
-moves-offers l w v es count f n stage (suc m) t j k h st r low =
-    offers-as w j t z (λ x. Goes l w v f n stage m t j x ⊎ Follows l w v (f m) n stage t j x) (Goes l w v f n stage (suc m) t j)
-    (λ x. ⊎-elim (λ p. record { which = p .which; low = (let z = p .low in omega arith); follows = p .follows }) (λ q. record { which = m; low = omega arith; follows = q }))
-    (λ x p. split x p (ltb (p .which) m) refl)
-    (offers-then w j t u z (Goes l w v f n stage m t j) (Follows l w v (f m) n stage t j)
-    (moves-offers l w v es count f n stage m t j k (record { froms = λ i z. h .froms i (omega arith); tos = λ i z. h .tos i (omega arith) }) st r low)
-    (offers-as w j u z (Follows l w v (f m) n stage u j) (Follows l w v (f m) n stage t j)
-    (λ x. follows-kept l w v (f m) n stage ((n + 1) * l .row) t u j x (k .laid) short from (omega arith) (kept .same))
-    (λ x. follows-kept l w v (f m) n stage ((n + 1) * l .row) u t j x (k .laid) short from (omega arith) (λ i z. sym (kept .same i z)))
-    (follow-offers l w v (f m) n stage u j asks (rw (kept .long) low))))
-  where
-    u : List ℤ
-    u = movesOf l w v f n stage m t
-
-    z : List ℤ
-    z = followOf l w (f m) (gainAt (v .entered) (f m .from)) (gainAt (v .staying) (f m .from)) n stage u
-
-    kept : Kept ((n + 1) * l .row) t u
-    kept = moves-kept l w v f n stage m t
-
-    short : n ≤ l .high
-    short = let z = r .low in omega arith
-
-    from : f m .from < l .places
-    from = h .froms m (omega arith)
-
-    asks : Follow u l (f m) (gainAt (v .entered) (f m .from)) (gainAt (v .staying) (f m .from)) n stage
-    asks =
-        record {
-          laid = k .laid;
-          from = from;
-          to = h .tos m (omega arith);
-          entered = k .entered (f m .from) from;
-          staying = k .staying (f m .from) from;
-          stages = st;
-          ready = ready-kept kept r;
-        }
-
-    split : (x : ℤ) (p : Goes l w v f n stage (suc m) t j x) (b : Bool) → ltb (p .which) m ≡ b → Goes l w v f n stage m t j x ⊎ Follows l w v (f m) n stage t j x
-    split x p true q = inl (record { which = p .which; low = ltb-true (p .which) m q; follows = p .follows })
-    split x p false q =
-        let z = p .low in
-        let y = ltb-false (p .which) m q in
-        let e : p .which ≡ m = omega arith in
-        inr (subst (λ (i : ℕ). Follows l w v (f i) n stage t j x) e (p .follows))
 
 -- ---- clearing
 
@@ -325,51 +361,27 @@ marked-at t a (suc n) i h l m = by (eqb i (a + n)) refl (λ z. marked-at t a n i
 
 -- ---- a row
 
-known-still : (l : Layout) → Edges l still (l .places)
-known-still l = record { froms = λ i h. h; tos = λ i h. h }
-
-known-edges : {l : Layout} {v : View} {es : List Edge} {count : ℕ} → Known l v es count → Edges l (edgeIn es) count
-known-edges k = record { froms = k .froms; tos = k .tos }
-
 module _ (l : Layout) (w : Weighing) (v : View) (es : List Edge) (count : ℕ) (k : Known l v es count) where
   -- what a row offers depends on that row alone
   pub row-offers-kept : (n b : ℕ) (t u : List ℤ) (j : ℕ) (x : ℤ) → n ≤ l .high → (n + 1) * l .row ≤ b → ((i : ℕ) → i < b → cellAt u i ≡ cellAt t i) → RowOffers l w v es count n u j x → RowOffers l w v es count n t j x
   row-offers-kept n b t u j x low le same =
-      ⊎-elim (λ q. inl (goes-kept l w v still n 1 (l .places) b t u j x (k .laid) low (known-still l .froms) le same q))
+      ⊎-elim (λ q. inl (goes-kept l w v still n 1 (l .places) b t u j x (k .laid) low (λ i h. h) le same q))
       (λ q. inr (goes-kept l w v (edgeIn es) n 0 count b t u j x (k .laid) low (k .froms) le same q))
 
   pub row-best : (n : ℕ) (t : List ℤ) (j : ℕ) → Ready t l n → (n + 1) * l .row ≤ j → j < (n + 1) * l .row + l .row → IsBest (weightingOf w .order) (RowOffers l w v es count n t j) (heldIn (cellAt (rowOf l w v es count n t) j))
   unfolding rowOf
   row-best n t j r from to =
       IsBest-iff (weightingOf w .order)
-      (λ x. ⊎-elim absurd (⊎-elim (λ q. inl (goes-kept l w v still n 1 (l .places) b t c j x (k .laid) low (known-still l .froms) (omega arith) (cleared-kept .same) q)) (λ q. inr (goes-kept l w v (edgeIn es) n 0 count b t u j x (k .laid) low (k .froms) (omega arith) (stayed-kept .same) q))))
-      (λ x. ⊎-elim (λ q. inr (inl (goes-kept l w v still n 1 (l .places) b c t j x (k .laid) low (known-still l .froms) (omega arith) (λ i h. sym (cleared-kept .same i h)) q))) (λ q. inr (inr (goes-kept l w v (edgeIn es) n 0 count b u t j x (k .laid) low (k .froms) (omega arith) (λ i h. sym (stayed-kept .same i h)) q))))
-      (heldIn (cellAt z j))
-      (offers-then w j c u z (Goes l w v still n 1 (l .places) c j) (Goes l w v (edgeIn es) n 0 count u j)
-      (moves-offers l w v es count still n 1 (l .places) c j k (known-still l) (omega arith) (ready-kept cleared-kept r) (rw (cleared-kept .long) long))
-      (moves-offers l w v es count (edgeIn es) n 0 count u j k (known-edges k) (omega arith) (ready-kept stayed-kept r) (rw (stayed-kept .long) long))
-      (λ _. ⊥) nothing)
+      (λ x. ⊎-elim absurd (to-row l w v es count n t j k r long x))
+      (λ x o. inr (of-row l w v es count n t j k r long x o))
+      (heldIn (cellAt (placesOf l w v es count n (l .places) c) j))
+      (places-offers l w v es count n t j k r long c kept (λ _. ⊥) nothing)
     where
-      b : ℕ
-      b = (n + 1) * l .row
-
       c : List ℤ
       c = cleared t ((n + 1) * l .row) ((n + 1) * l .row + l .row)
 
-      u : List ℤ
-      u = movesOf l w v still n 1 (l .places) c
-
-      z : List ℤ
-      z = movesOf l w v (edgeIn es) n 0 count u
-
-      low : n ≤ l .high
-      low = let z = r .low in omega arith
-
-      cleared-kept : Kept ((n + 1) * l .row) t c
-      cleared-kept = marked-kept ((n + 1) * l .row) t ((n + 1) * l .row) _ (omega arith)
-
-      stayed-kept : Kept ((n + 1) * l .row) t u
-      stayed-kept = kept-trans cleared-kept (moves-kept l w v still n 1 (l .places) c)
+      kept : Kept ((n + 1) * l .row) t c
+      kept = marked-kept ((n + 1) * l .row) t ((n + 1) * l .row) _ (omega arith)
 
       fits : (n + 1) * l .row + l .row ≤ length t
       fits = omega (arith, row-fits l n (r .low), r .inside)
@@ -409,40 +421,52 @@ unfolding marked
 above-marked b t a zero l = above-refl
 above-marked b t a (suc n) l = above-trans (above-marked b t a n (omega arith)) (above-set b _ (a + n) mark (omega arith))
 
-above-along : (b : ℕ) (l : Layout) (w : Weighing) (e : Edge) (g : ℤ) (at to n : ℕ) (t : List ℤ) → Laid l → to + l .block ≤ b → Above b t (alongOf l w e g at to n t)
-unfolding alongOf moved
-above-along b l w e g at to zero t h le = above-refl
-above-along b l w e g at to (suc n) t h le =
-    above-trans (above-along b l w e g at to n t h le)
-    (above-cond (ltZ mark (cellAt (alongOf l w e g at to n t) (at + n)))
-    (above-cond (mayGo l e (clocksAt (l .radices) n)) (above-set b _ (to + goesTo l e (clocksAt (l .radices) n)) _ (omega (arith, goes-lt l e (clocksAt (l .radices) n) h))) above-refl)
-    above-refl)
+above-each : (b : ℕ) (f : ℕ → List ℤ → List ℤ) (m : ℕ) → ((i : ℕ) (t : List ℤ) → i < m → Above b t (f i t)) → (t : List ℤ) → Above b t (each f m t)
+unfolding each
+above-each b f zero h t = above-refl
+above-each b f (suc m) h t = above-trans (above-each b f m (λ i u l. h i u (omega arith)) t) (h m (each f m t) (omega arith))
 
-above-pass : (b : ℕ) (l : Layout) (w : Weighing) (e : Edge) (g : ℤ) (at to : ℕ) (t : List ℤ) → Laid l → to + l .block ≤ b → Above b t (passOf l w e g at to t)
-unfolding passOf
-above-pass b l w e g at to t h le = above-cond (ltZ mark g) (above-along b l w e g at to (l .block) t h le) above-refl
+module _ (l : Layout) (w : Weighing) (v : View) (es : List Edge) (count : ℕ) (k : Known l v es count) (n : ℕ) (low : n < l .high) where
+  above-turn : (e : Edge) (stage : ℕ) (cs : Clocks) (x : ℤ) (t : List ℤ) → stage ≤ 1 → e .to < l .places → Within (l .radices) cs → Above ((n + 1) * l .row + l .row) t (moved l w e (blockAt l (n + 1) stage (e .to)) cs x t)
+  unfolding moved
+  above-turn e stage cs x t st h i =
+      let b = block-low l (n + 1) stage (e .to) (record { laid = k .laid; low = omega arith; stages = st; place = h }) in
+      let c = coded l (afterResets e cs) (k .laid) (reset-within (l .radices) e cs i) .whole in
+      above-cond (guardsHold cs e) (above-set _ t (blockAt l (n + 1) stage (e .to) + codeOf (l .radices) (afterResets e cs)) _ (omega arith)) above-refl
 
-above-follow : (l : Layout) (w : Weighing) (e : Edge) (g h : ℤ) (n stage : ℕ) (t : List ℤ) → Placed l (n + 1) stage (e .to) → Above ((n + 1) * l .row + l .row) t (followOf l w e g h n stage t)
-unfolding followOf
-above-follow l w e g h n stage t p =
-    let b = block-low l (n + 1) stage (e .to) p in
-    above-trans (above-pass _ l w e g (blockAt l n 0 (e .from)) (blockAt l (n + 1) stage (e .to)) t (p .laid) b)
-    (above-pass _ l w e h (blockAt l n 1 (e .from)) (blockAt l (n + 1) stage (e .to)) _ (p .laid) b)
+  above-leave : (p : ℕ) (cs : Clocks) (x : ℤ) (i : ℕ) (t : List ℤ) → i < count → Within (l .radices) cs → Above ((n + 1) * l .row + l .row) t (leaveOf l w n p cs x (edgeIn es i) t)
+  unfolding leaveOf
+  above-leave p cs x i t h m =
+      above-cond (eqb (edgeIn es i .from) p) (above-turn (edgeIn es i) 0 cs x t (omega arith) (k .tos i h) m) above-refl
 
-above-moves : (l : Layout) (w : Weighing) (v : View) (f : ℕ → Edge) (n stage m : ℕ) (t : List ℤ) → Laid l → Edges l f m → n < l .high → stage ≤ 1 → Above ((n + 1) * l .row + l .row) t (movesOf l w v f n stage m t)
-unfolding movesOf
-above-moves l w v f n stage zero t laid h low st = above-refl
-above-moves l w v f n stage (suc m) t laid h low st =
-    above-trans (above-moves l w v f n stage m t laid (record { froms = λ i z. h .froms i (omega arith); tos = λ i z. h .tos i (omega arith) }) low st)
-    (above-follow l w (f m) _ _ n stage _ (record { laid = laid; low = omega arith; stages = st; place = h .tos m (omega arith) }))
+  above-visit : (g : ℤ) (p at c : ℕ) (t : List ℤ) → p < l .places → Above ((n + 1) * l .row + l .row) t (visitOf l w es count g n p at c (clocksAt (l .radices) c) t)
+  unfolding visitOf spreadOf
+  above-visit g p at c t h =
+      let m = ticked-within l (clocksAt (l .radices) c) (k .laid) in
+      above-cond (ltZ mark (cellAt t (at + c)))
+      (above-trans (above-turn (still p) 1 (ticked (l .radices) (clocksAt (l .radices) c)) _ t (omega arith) h m)
+      (above-each _ (λ i. leaveOf l w n p (ticked (l .radices) (clocksAt (l .radices) c)) (weightingOf w .combine (cellAt t (at + c)) g) (edgeIn es i)) count (λ i u z. above-leave p (ticked (l .radices) (clocksAt (l .radices) c)) _ i u z m) _))
+      above-refl
+
+  above-pass : (g : ℤ) (p at : ℕ) (t : List ℤ) → p < l .places → Above ((n + 1) * l .row + l .row) t (passOf l w es count g n p at t)
+  unfolding passOf
+  above-pass g p at t h =
+      above-cond (ltZ mark g)
+      (above-each _ (λ c. visitOf l w es count g n p at c (clocksAt (l .radices) c)) (l .block) (λ c u z. above-visit g p at c u h) t)
+      above-refl
+
+  above-place : (p : ℕ) (t : List ℤ) → p < l .places → Above ((n + 1) * l .row + l .row) t (placeOf l w v es count n p t)
+  unfolding placeOf
+  above-place p t h =
+      above-trans (above-pass (gainAt (v .entered) p) p (blockAt l n 0 p) t h) (above-pass (gainAt (v .staying) p) p (blockAt l n 1 p) _ h)
+
+  above-row : (t : List ℤ) → Above ((n + 1) * l .row + l .row) t (rowOf l w v es count n t)
+  unfolding rowOf
+  above-row t =
+      above-trans (above-marked _ t ((n + 1) * l .row) _ (omega arith))
+      (above-each _ (placeOf l w v es count n) (l .places) (λ p u h. above-place p u h) _)
 
 module _ (l : Layout) (w : Weighing) (v : View) (es : List Edge) (count : ℕ) (k : Known l v es count) where
-  above-row : (n : ℕ) (t : List ℤ) → n < l .high → Above ((n + 1) * l .row + l .row) t (rowOf l w v es count n t)
-  unfolding rowOf
-  above-row n t low =
-      above-trans (above-marked _ t ((n + 1) * l .row) _ (omega arith))
-      (above-trans (above-moves l w v still n 1 (l .places) _ (k .laid) (known-still l) low (omega arith)) (above-moves l w v (edgeIn es) n 0 count _ (k .laid) (known-edges k) low (omega arith)))
-
   pub above-rows : (m : ℕ) (t : List ℤ) → m ≤ l .high → Above (m * l .row + l .row) t (rowsOf l w v es count m t)
   unfolding rowsOf
   above-rows zero t h = above-refl
@@ -452,7 +476,7 @@ module _ (l : Layout) (w : Weighing) (v : View) (es : List Edge) (count : ℕ) (
       record {
         same = λ i z.
             above-rows m (rowOf l w v es count m t) (omega arith) .same i (omega arith)
-            ∙ above-row m t (omega arith) .same i (omega arith);
+            ∙ above-row l w v es count k m (omega arith) t .same i (omega arith);
       }
 
   -- row n is ready where the first m rows are bounded

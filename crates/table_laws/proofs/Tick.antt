@@ -36,11 +36,11 @@ use Rattle.walks.proofs.Moves.{move-len}
 use Rattle.walks.proofs.Offers.{Offered}
 use Rattle.walks.proofs.TableBest.{next-only}
 use Rattle.table.specs.declared.View.{View}
-use Rattle.table.specs.Moves.{cellAt, cleared, goesTo, mayGo, gainAt, still, edgeIn, rowsOf, begun, tickOf, openOf}
+use Rattle.table.specs.Moves.{cellAt, cleared, gainAt, still, edgeIn, rowsOf, begun, tickOf, openOf}
 use Rattle.table.specs.Asks.{Known, Ticking}
 use Rattle.table.proofs.Kept.{marked-long, rows-long}
 use Rattle.table.proofs.Steps.{whole-rows}
-use Rattle.table_laws.specs.Offers.{Passes, stageOf, gainsOf, Follows, Goes, RowOffers}
+use Rattle.table_laws.specs.Offers.{goesTo, mayGo, Passes, stageOf, gainsOf, Follows, Goes, RowOffers}
 use Rattle.table_laws.specs.Meaning.{stateAt, indexAt, tableOf, viewOf, About, Seen, Viewed}
 use Rattle.table_laws.specs.Claims.{TickIsNext, TickIsSeen, OpenIsOpening, OpenIsSeen}
 use Rattle.table_laws.proofs.Best.{rows-best}

@@ -10,10 +10,19 @@ use Rattle.weighting.specs.declared.Weighing.{Weighing}
 use Rattle.weighting.specs.Weightings.{weightingOf}
 use Rattle.weighting.specs.Cell.{heldIn}
 use Rattle.pattern.specs.declared.Edge.{Edge}
+use Rattle.pattern.specs.Clocks.{Clocks, guardsHold, afterResets}
 use Rattle.cells.specs.declared.Layout.{Layout}
-use Rattle.cells.specs.Index.{clocksAt, blockAt}
+use Rattle.cells.specs.Index.{codeOf, clocksAt, ticked, blockAt}
 use Rattle.table.specs.declared.View.{View}
-use Rattle.table.specs.Moves.{cellAt, gainAt, goesTo, mayGo, still, edgeIn}
+use Rattle.table.specs.Moves.{cellAt, gainAt, still, edgeIn}
+
+-- Where the clocks of a cell go along the edge after one tick.
+abbrev pub goesTo : Layout → Edge → Clocks → ℕ
+goesTo l e cs = codeOf (l .radices) (afterResets e (ticked (l .radices) cs))
+
+-- "then takes an edge out of that place whose guards all hold": after the tick.
+abbrev pub mayGo : Layout → Edge → Clocks → Bool
+mayGo l e cs = guardsHold (ticked (l .radices) cs) e
 
 -- Cell k of the block at `at` offers x to cell j, along e, into the block at `to`: it holds a worth, its place can be
 -- stayed in, the edge's guards hold after the tick, it leads to j, and x is the moved worth.

@@ -1,9 +1,8 @@
--- `advance` clears row n + 1, and offers row n into it: staying, then along the edges.
+-- `advance` clears row n + 1, and moves row n into it.
 use native.Mathlib.Omega.{arith}
 use borrow.Author.Needs.{needs}
 use Rattle.cells.proofs.Blocks.{row-fits}
-use Rattle.table.specs.Moves.{still}
-use Rattle.table.proofs.Steps.{clear-ready, moves-ready, known-stays, row-is}
+use Rattle.table.proofs.Steps.{clear-ready, row-is}
 use Rattle.table.proofs.advance.Statement.{statement}
 use Rattle.table.proofs.advance.Tie as tie
 
@@ -29,31 +28,17 @@ clear-requires c κs = let st = c .before in
     let i = st .pre .1 .inside in
     (omega arith, omega arith)
 
-stays-requires : tie.Need-stays-requires
-stays-requires c κs = let st = c .before .before .before .before in
-    (known-stays (st .pre .0), clear-ready (st .args .l) (st .args .n) (st .args .table .now) _ (c .before .before .clear .ensures) (st .pre .1))
-
-leaves-requires : tie.Need-leaves-requires
-leaves-requires c κs = let st = c .before .before .before .before .before .before .before in
-    let a = st .args in
-    (st .pre .0, moves-ready (a .l) (a .w) (a .v) still (a .n) 1 (a .l .places) _ _ (c .before .before .stays .ensures) (clear-ready (a .l) (a .n) (a .table .now) _ (c .before .before .before .before .before .clear .ensures) (st .pre .1)))
+row-requires : tie.Need-row-requires
+row-requires c κs = let st = c .before .before .before .before in
+    (st .pre .0, clear-ready (st .args .l) (st .args .n) (st .args .table .now) _ (c .before .before .clear .ensures) (st .pre .1))
 
 same-length : tie.Need-same-length
 same-length c = search needs
 
 returns : tie.Need-returns
-returns c = let a = c .before .before .before .before .before .before .before .before .before .args in
-    row-is (a .l) (a .w) (a .v) (a .edges) (a .count) (a .n) (a .table .now) _ _ _ (c .before .before .before .before .before .before .before .clear .ensures) (c .before .before .before .before .stays .ensures) (c .before .leaves .ensures)
+returns c = let a = c .before .before .before .before .before .before .args in
+    row-is (a .l) (a .w) (a .v) (a .edges) (a .count) (a .n) (a .table .now) _ _ (c .before .before .before .before .clear .ensures) (c .before .row .ensures)
 
 pub advance-spec : {M : Type 1} → statement M
 advance-spec =
-    tie.close
-    (tie.spec
-    add-at
-    mul-at
-    add-clear
-    clear-requires
-    stays-requires
-    leaves-requires
-    same-length
-    returns)
+    tie.close (tie.spec add-at mul-at add-clear clear-requires row-requires same-length returns)

@@ -1,0 +1,82 @@
+-- `visit` looks at one cell, and moves what it holds.
+use Prim.Native.Nat.{_+_}
+use native.Mathlib.Omega.{arith}
+use mathlib.Core.Path.{_≡_}
+use mathlib.Core.Bool.{true, false}
+use borrow.Author.Needs.{needs}
+use lib.IntN.{pos}
+use lib.ListN.{getD}
+use lib.Signed.{ltZ}
+use mir.Syntax.{w64}
+use mir.Val.{toZ, ofZ}
+use mir.Facts.{toZ-ofZ}
+use Rattle.weighting.specs.Cell.{mark}
+use Rattle.weighting.specs.Weightings.{weightingOf}
+use Rattle.table.proofs.Steps.{sized-in, cell-in, grown-fits, passing-moving, visit-is, visit-no}
+use Rattle.table.proofs.visit.Statement.{statement}
+use Rattle.table.proofs.visit.Tie as tie
+
+add-v : tie.Need-add-v
+add-v c = let h = cell-in (c .args .k) (c .pre .0) (c .pre .2) in
+    omega (arith, c .good .0 .0)
+
+mul-v : tie.Need-mul-v
+mul-v c = let h = cell-in (c .args .k) (c .pre .0) (c .pre .2) in
+    omega (arith, c .good .0 .0)
+
+slice-copy-out-v : tie.Need-slice-copy-out-v
+slice-copy-out-v c = let h = cell-in (c .args .k) (c .pre .0) (c .pre .2) in
+    omega arith
+
+tick-clocks-requires : tie.Need-tick-clocks-requires
+tick-clocks-requires c κs = search needs
+
+combine-requires : tie.Need-combine-requires
+combine-requires c κs = let st = c .before .before .before in
+    let a = st .args in
+    let v = getD (a .table .now) (a .at + a .k) (pos 0) in
+    let p : toZ w64 (ofZ w64 v) ≡ v = toZ-ofZ {w = w64} {z = v} (record { sfits = c .before .before .v .given }) in
+    let q = toZ-ofZ (st .fits .gain) in
+    let m : ltZ mark v ≡ true = rw p at (c .before .if1 .taken) in
+    rw (p, q) (grown-fits (a .w) v (a .gain) (sized-in (st .pre .0 .bounded .at (a .k) (st .pre .2)) m) (sized-in (st .pre .0 .gain) (st .pre .1)))
+
+spread-requires : tie.Need-spread-requires
+spread-requires c κs = let st = c .before .before .before .before .before in
+    (passing-moving (st .args .clocks) _ (st .pre .0) (c .before .before .tick-clocks .ensures), st .pre .0 .edges, st .pre .0 .place)
+
+same-length : tie.Need-same-length
+same-length c = search needs
+
+returns : tie.Need-returns
+returns c = let st = c .before .before .before .before .before .before .before in
+    let a = st .args in
+    let v = getD (a .table .now) (a .at + a .k) (pos 0) in
+    let p : toZ w64 (ofZ w64 v) ≡ v = toZ-ofZ {w = w64} {z = v} (record { sfits = c .before .before .before .before .before .before .v .given }) in
+    let m : ltZ mark v ≡ true = rw p at (c .before .before .before .before .before .if1 .taken) in
+    let x = c .before .before .before .combine .result in
+    let q = toZ-ofZ (st .fits .gain) in
+    let f : x ≡ weightingOf (a .w) .combine v (a .gain) = rw (p, q) at (c .before .before .before .combine .ensures) in
+    let k : toZ w64 (ofZ w64 x) ≡ x = toZ-ofZ {w = w64} {z = x} (record { sfits = c .before .before .before .combine .ok }) in
+    visit-is (a .l) (a .w) (a .edges) (a .count) (a .gain) (a .n) (a .p) (a .at) (a .k) (a .clocks) _ x (a .table .now) _ m (c .before .before .before .before .tick-clocks .ensures) f (rw k at (c .before .spread .ensures))
+
+returns-2 : tie.Need-returns-2
+returns-2 c = let st = c .before .before in
+    let a = st .args in
+    let v = getD (a .table .now) (a .at + a .k) (pos 0) in
+    let p : toZ w64 (ofZ w64 v) ≡ v = toZ-ofZ {w = w64} {z = v} (record { sfits = c .before .v .given }) in
+    let m : ltZ mark v ≡ false = rw p at (c .if1 .left) in
+    visit-no (a .l) (a .w) (a .edges) (a .count) (a .gain) (a .n) (a .p) (a .at) (a .k) (a .clocks) (a .table .now) m
+
+pub visit-spec : {M : Type 1} → statement M
+visit-spec =
+    tie.close
+    (tie.spec
+    add-v
+    mul-v
+    slice-copy-out-v
+    tick-clocks-requires
+    combine-requires
+    spread-requires
+    same-length
+    returns
+    returns-2)
