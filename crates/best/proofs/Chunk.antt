@@ -3,14 +3,13 @@
 use Prim.Native.Nat.{ℕ, zero, suc, _+_, _-_, _≤_, _<_}
 use native.Mathlib.Omega.{arith}
 use mathlib.Core.Path.{_≡_, refl, sym, ap, subst, _∙_}
-use mathlib.Core.List.{List, [], _∷_, _++_, map, append-assoc, List·Memᴰ}
+use mathlib.Core.List.{List, [], _∷_, _++_, append-assoc, List·Memᴰ}
 use mathlib.Core.Option.{Option, none, some}
 use mathlib.Core.Bool.{Bool, true, false}
 use borrow.Author.Tests.{eq-eqb, le-leb, le-ltb}
-use lib.ListN.{length, drop, getD, replicate, length-append, length-replicate}
+use lib.ListN.{length, getD, replicate, length-append, length-replicate}
 use lib.IntN.{ℤ, pos}
 use Rattle.weighting.specs.Weightings.{weightingOf}
-use Rattle.weighting.specs.Cell.{cellOf}
 use Rattle.pattern.specs.declared.Pattern.{Pattern}
 use Rattle.pattern.specs.declared.Refusal.{Refusal}
 use Rattle.pattern.specs.Slots.{within}
@@ -23,17 +22,16 @@ use Rattle.walks.specs.Automaton.{State as Place}
 use Rattle.walks.specs.Tables.{Table}
 use Rattle.walks.proofs.Cut.{only-passed}
 use Rattle.book.specs.View.{sampleAt, before, viewOf}
-use Rattle.book.proofs.SameClocks.{sameClocks}
+use Rattle.book.specs.Automaton.{sameClocks, heldAutomaton}
 use Rattle.monitor.specs.declared.State.{State}
-use Rattle.monitor.specs.Cells.{from, upTo, cellStates, stateAt, heldBy, written}
-use Rattle.monitor.specs.Tick.{heldAutomaton, openTable, scoreIn, lengthIn, reportOf}
+use Rattle.monitor.specs.Cells.{cellStates, heldBy, written}
+use Rattle.monitor.specs.Tick.{openTable, scoreIn, lengthIn, reportOf}
 use Rattle.monitor.specs.State.{pieceLater}
 use Rattle.monitor.specs.Open.{unlessRefused, marks}
 use Rattle.monitor.specs.Feed.{Call, pieceBroken, feedRefusal, tableAfter, feedState, feedFirst, feedSecond, feedScores, feedLengths}
 use Rattle.monitor.specs.Demand.{refusalBy}
-use Rattle.monitor.proofs.Numbers.{made-in, made-rest}
 use Rattle.monitor.proofs.CellLaws.{of-cells}
-use Rattle.monitor.proofs.Written.{held-written}
+use Rattle.monitor.proofs.Written.{held-written, written-same}
 use Rattle.monitor.proofs.PieceViews.{sample-front, before-front, view-front, longer, before-end}
 use Rattle.monitor.proofs.Between.{Fine, Between, bookTable, next, next-fine, refusal-is, ticks-in, next-length, rest-is, cell-no-mark}
 use Rattle.monitor.proofs.Demand.{feed-given, score-at, length-at}
@@ -50,20 +48,6 @@ module _ (p : Pattern) (b more : Book) where
 
   pub state-front : (n : ℕ) → n ≤ length b → stateTo p (b ++ more) n ≡ stateTo p b n
   state-front n h = rw (before-front p b more n h)
-
--- ---- what is written depends on the cells alone
-
-map-same : {A : Type 0} (f g : ℕ → A) (i n : ℕ) → ((k : ℕ) → k < i + n → f k ≡ g k) → map f (from i n) ≡ map g (from i n)
-unfolding from
-map-same f g i zero h = refl
-map-same f g i (suc n) h = rw (h i (omega arith), map-same f g (suc i) n (λ k l. h k (omega arith)))
-
-pub written-same : (p : Pattern) (U W : Table ℤ Clocks) (t : List ℤ) → ((x : Place Clocks) → List·Memᴰ x (cellStates p) → U x ≡ W x) → written p U t ≡ written p W t
-unfolding written
-written-same p U W t h =
-    ap (λ (l : List ℤ). l ++ drop (cellsNeeded p) t)
-    (map-same (λ i. cellOf (U (stateAt p i))) (λ i. cellOf (W (stateAt p i))) 0 (cellsNeeded p)
-    (λ k l. let z : 0 + k ≡ k = omega arith in ap cellOf (h (stateAt p k) (subst (λ (j : ℕ). List·Memᴰ (stateAt p j) (cellStates p)) z (made-in (stateAt p) 0 (cellsNeeded p) k (omega arith))))))
 
 -- ---- the stretch
 

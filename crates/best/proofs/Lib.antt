@@ -5,3 +5,4 @@ pub mod Pieces
 pub mod Chunk
 pub mod Turn
 pub mod Whole
+pub mod Left

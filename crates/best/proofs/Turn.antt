@@ -2,13 +2,11 @@
 use Prim.Native.Nat.{ℕ, zero, suc, _+_, _-_, _*_, _≤_, _<_, min}
 use native.Mathlib.Omega.{arith}
 use mathlib.Core.Path.{_≡_, refl, sym, ap, subst, _∙_}
-use mathlib.Core.List.{List, _++_, map}
+use mathlib.Core.List.{List}
 use mathlib.Core.Option.{Option}
 use mathlib.Core.Bool.{true}
-use lib.ListN.{length, take, drop, getD, replicate, length-replicate, length-take, length-drop}
-use lib.Seq.{drop-at}
+use lib.ListN.{length, take, drop, getD, length-take, length-drop}
 use lib.IntN.{ℤ}
-use Rattle.weighting.specs.Cell.{mark, cellOf}
 use Rattle.pattern.specs.declared.Pattern.{Pattern}
 use Rattle.pattern.specs.Slots.{all}
 use Rattle.pattern.specs.Sound.{soundOf}
@@ -21,11 +19,10 @@ use Rattle.record.proofs.RecordLaws.{parts, total-more, sample-within}
 use Rattle.walks.specs.Tables.{Table}
 use Rattle.book.specs.View as book
 use Rattle.monitor.specs.declared.State.{State}
-use Rattle.monitor.specs.Cells.{stateAt, written}
+use Rattle.monitor.specs.Cells.{written}
 use Rattle.monitor.specs.Open.{marks}
 use Rattle.monitor.specs.Feed.{Call, feedState, feedFirst, feedSecond, feedScores, feedLengths}
-use Rattle.monitor.proofs.Numbers.{made-rest}
-use Rattle.monitor.proofs.Written.{written-length, marks-length}
+use Rattle.monitor.proofs.Written.{written-length, marks-length, written-again, marks-again}
 use Rattle.monitor.proofs.Between.{Fine}
 use Rattle.best.specs.declared.Search.{Search}
 use Rattle.best.specs.Best.{Chosen, chosenTo}
@@ -33,15 +30,6 @@ use Rattle.best.specs.Search.{tableTo, stateTo, chosenIn, chosenPast, ch
 use Rattle.best.proofs.Choices.{past-is}
 use Rattle.best.proofs.Pieces.{fine-tick, front, rest, start, split, front-long, book-long, start-low}
 use Rattle.best.proofs.Chunk.{whole, state-after, first-after, second-after, score-after, length-after}
-
--- ---- what is written twice
-
-pub written-again : (p : Pattern) (U W : Table ℤ Clocks) (t : List ℤ) → written p U (written p W t) ≡ written p U t
-unfolding written
-written-again p U W t = rw (made-rest (λ i. cellOf (W (stateAt p i))) (cellsNeeded p) (drop (cellsNeeded p) t))
-
-pub marks-again : (p : Pattern) (u : List ℤ) → marks p (marks p u) ≡ marks p u
-marks-again p u = ap (_++_ (replicate (cellsNeeded p) mark)) (drop-at (replicate (cellsNeeded p) mark) (drop (cellsNeeded p) u) (cellsNeeded p) (length-replicate (cellsNeeded p) mark))
 
 -- ---- a chunk
 

@@ -20,7 +20,7 @@ use Rattle.monitor.specs.Cells.{written}
 use Rattle.monitor.specs.Tick.{openTable}
 use Rattle.monitor.specs.State.{noTicks}
 use Rattle.monitor.specs.Open.{firstCause, tableTooShort, marks, openRefusal, openState, openFirst, openSecond}
-use Rattle.monitor.proofs.Written.{written-length, marks-length}
+use Rattle.monitor.proofs.Written.{written-length, marks-length, written-again, marks-again}
 use Rattle.monitor.proofs.Between.{no-cause}
 use Rattle.monitor.proofs.Demand.{open-parts, fresh}
 use Rattle.best.specs.declared.Choice.{Choice}
@@ -28,7 +28,6 @@ use Rattle.best.specs.declared.Search.{Search}
 use Rattle.best.specs.Best.{chosenTo, bestRefusal, bestFirst, bestSecond}
 use Rattle.best.specs.Search.{tableTo, stateTo, chosenBy, chosenIn, SearchedTo, Fit}
 use Rattle.best.proofs.Pieces.{book-long}
-use Rattle.best.proofs.Turn.{written-again, marks-again}
 
 module _ (p : Pattern) (ds : List ℕ) (vs : List ℤ) where
   abbrev B : Book

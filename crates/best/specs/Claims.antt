@@ -1,18 +1,23 @@
--- What is proved of the best of a record: it is the best over the ends of demand 3 on the record's book, or none. The proof
--- is in proofs/.
-use Prim.Native.Nat.{ℕ, _≤_}
+-- What is proved of the best of a record: it is the best over the ends of demand 3 on the record's book, or none; and the
+-- tables are left as feeding the whole record leaves them. The proofs are in proofs/.
+use Prim.Native.Nat.{ℕ, zero, suc, _-_, _≤_}
 use mathlib.Core.Path.{_≡_}
-use mathlib.Core.Bool.{true}
+use mathlib.Core.List.{List, [], _∷_, _++_, map}
+use mathlib.Core.Bool.{true, cond}
 use mathlib.Core.Option.{Option, none, some}
-use lib.Dec.{T}
-use lib.ListN.{length}
-use lib.IntN.{ℤ}
+use lib.Dec.{T, ltb}
+use lib.ListN.{length, replicate}
+use lib.IntN.{ℤ, pos}
 use Rattle.weighting.specs.Weightings.{weightingOf}
 use Rattle.pattern.specs.declared.Pattern.{Pattern}
 use Rattle.pattern.specs.Sound.{soundOf}
-use Rattle.record.specs.Record.{Book}
+use Rattle.pattern.specs.Distance.{Sample}
+use Rattle.record.specs.Record.{Piece, Book, piecesOf}
+use Rattle.monitor.specs.declared.State.{State}
+use Rattle.monitor.specs.Open.{openState, openFirst, openSecond}
+use Rattle.monitor.specs.Feed.{Call, feedState, feedFirst, feedSecond}
 use Rattle.monitor.specs.Demand.{InWindow}
-use Rattle.best.specs.Best.{Chosen, chosenOf}
+use Rattle.best.specs.Best.{Chosen, chosenOf, bestRefusal, bestFirst, bestSecond}
 
 -- Among the ends up to n: some run has this end, length and score; no run is better; none as good ends earlier, and none as
 -- good with the same end is shorter.
@@ -33,3 +38,39 @@ Told p b n (some f) = BestTo p b n f
 
 abbrev pub BestOfRecord : Type 0
 BestOfRecord = (p : Pattern) → soundOf p ≡ true → (b : Book) → Told p b (length b) (chosenOf p b)
+
+-- ---- the tables
+
+-- "pieces over 65,535 ticks cut": a duration as pieces of at most 65,535 ticks.
+unfoldable pub cutIn : (most d : ℕ) → List ℕ
+cutIn zero d = []
+cutIn (suc most) d = cond (ltb 65_535 d) (65_535 ∷ cutIn most (d - 65_535)) (d ∷ [])
+
+-- A piece as it is fed: in such pieces, each with report slices of its length. There are no more of them than ticks.
+abbrev pub callFor : Sample → (duration : ℕ) → Call
+callFor x d = record { duration = d; values = x; scores = replicate d (pos 0); lengths = replicate d 0 }
+
+abbrev pub callsFor : Piece → List Call
+callsFor x = map (callFor (x .sample)) (cutIn (x .duration) (x .duration))
+
+-- "feeding the whole record"
+unfoldable pub wholeRecord : List Piece → List Call
+wholeRecord [] = []
+wholeRecord (x ∷ xs) = callsFor x ++ wholeRecord xs
+
+-- What a list of calls leaves, each going on from what the one before it left.
+module _ (p : Pattern) where
+  abbrev pub firstAfter : State → (first second : List ℤ) → List Call → List ℤ
+  firstAfter s t u [] = t
+  firstAfter s t u (c ∷ cs) = firstAfter (feedState p s t u c) (feedFirst p s t u c) (feedSecond p s t u c) cs
+
+  abbrev pub secondAfter : State → (first second : List ℤ) → List Call → List ℤ
+  secondAfter s t u [] = u
+  secondAfter s t u (c ∷ cs) = secondAfter (feedState p s t u c) (feedFirst p s t u c) (feedSecond p s t u c) cs
+
+-- "The tables are left as opening and then feeding the whole record leaves them, pieces over 65,535 ticks cut."
+abbrev pub TablesLeft : Type 0
+TablesLeft =
+    (p : Pattern) (ds : List ℕ) (vs : List ℤ) (t u : List ℤ) → bestRefusal p ds vs (length t) (length u) ≡ none → (s : State)
+    → (bestFirst p ds vs t u ≡ firstAfter p (openState p t u s) (openFirst p t u) (openSecond p t u) (wholeRecord (piecesOf (p .channels) ds vs)))
+    × (bestSecond p ds vs t u ≡ secondAfter p (openState p t u s) (openFirst p t u) (openSecond p t u) (wholeRecord (piecesOf (p .channels) ds vs)))

@@ -54,3 +54,9 @@ module _ {A : Type 0} (f : ℕ → A) where
       let e : length (map f (upTo n)) ≡ n = length-map (upTo n) f ∙ from-length 0 n in
       let d = length-drop n l in
       omega arith
+
+-- what is made alike of each
+pub made-same : {A : Type 0} (f g : ℕ → A) (i n : ℕ) → ((k : ℕ) → k < i + n → f k ≡ g k) → map f (from i n) ≡ map g (from i n)
+unfolding from
+made-same f g i zero h = refl
+made-same f g i (suc n) h = rw (h i (omega arith), made-same f g (suc i) n (λ k l. h k (omega arith)))

@@ -1,14 +1,14 @@
 -- What was written into cells is held by them, and further cells are as they were.
 use Prim.Native.Nat.{ℕ, suc, _+_, _-_, _≤_, _<_}
 use native.Mathlib.Omega.{arith}
-use mathlib.Core.Path.{_≡_, refl, sym, ap, _∙_}
-use mathlib.Core.List.{List, [], _∷_, _++_, map}
+use mathlib.Core.Path.{_≡_, refl, sym, ap, subst, _∙_}
+use mathlib.Core.List.{List, [], _∷_, _++_, map, List·Memᴰ}
 use mathlib.Core.Option.{Option, none, some}
 use mathlib.Core.Bool.{Bool, true, false, cond, _||_, or-true}
 use borrow.Author.Tests.{le-leb}
 use lib.Dec.{leb}
 use lib.ListN.{length, take, drop, getD, length-append, length-drop, length-map, length-take, replicate, length-replicate}
-use lib.Seq.{getD-take}
+use lib.Seq.{getD-take, drop-at}
 use lib.IntN.{ℤ, natAbs}
 use Rattle.integers.specs.Equal.{eqZ}
 use Rattle.integers.proofs.Equal.{eq-self}
@@ -21,10 +21,10 @@ use Rattle.pattern.specs.Clocks.{Clocks}
 use Rattle.pattern.specs.Cells.{cellsNeeded}
 use Rattle.walks.specs.Automaton.{State}
 use Rattle.walks.specs.Tables.{Table}
-use Rattle.monitor.specs.Cells.{upTo, stateAt, indexOf, isCell, heldBy, written}
+use Rattle.monitor.specs.Cells.{upTo, cellStates, stateAt, indexOf, isCell, heldBy, written}
 use Rattle.monitor.specs.Open.{marks}
 use Rattle.monitor.specs.Feed.{cellFine, cellsBroken}
-use Rattle.monitor.proofs.Numbers.{from-length, made-front}
+use Rattle.monitor.proofs.Numbers.{from-length, made-front, made-rest, made-in, made-same}
 use Rattle.monitor.proofs.CellLaws.{Celled, is-cell, state-back, index-low, at-index, celled-at}
 
 module _ (p : Pattern) (sound : soundOf p ≡ true) where
@@ -67,3 +67,24 @@ module _ (p : Pattern) (sound : soundOf p ≡ true) where
       rw (all-at cellFine mark (take (cellsNeeded p) t)
       (λ i l. let k : i < cellsNeeded p = omega arith in
       rw (getD-take (cellsNeeded p) t i mark k, cell-says t i k) (fine-of (heldBy p t (stateAt p i)) (λ z q. h (stateAt p i) z (celled-at p sound i k) q))))
+
+-- ---- written again, or written alike
+
+module _ (p : Pattern) where
+  -- only what was written last stays
+  pub written-again : (U W : Table ℤ Clocks) (t : List ℤ) → written p U (written p W t) ≡ written p U t
+  unfolding written
+  written-again U W t = rw (made-rest (λ i. cellOf (W (stateAt p i))) (cellsNeeded p) (drop (cellsNeeded p) t))
+
+  pub marks-again : (u : List ℤ) → marks p (marks p u) ≡ marks p u
+  marks-again u =
+      ap (_++_ (replicate (cellsNeeded p) mark))
+      (drop-at (replicate (cellsNeeded p) mark) (drop (cellsNeeded p) u) (cellsNeeded p) (length-replicate (cellsNeeded p) mark))
+
+  -- only the cells' states count
+  pub written-same : (U W : Table ℤ Clocks) (t : List ℤ) → ((x : State Clocks) → List·Memᴰ x (cellStates p) → U x ≡ W x) → written p U t ≡ written p W t
+  unfolding written
+  written-same U W t h =
+      ap (λ (l : List ℤ). l ++ drop (cellsNeeded p) t)
+      (made-same (λ i. cellOf (U (stateAt p i))) (λ i. cellOf (W (stateAt p i))) 0 (cellsNeeded p)
+      (λ k l. let z : 0 + k ≡ k = omega arith in ap cellOf (h (stateAt p k) (subst (λ (j : ℕ). List·Memᴰ (stateAt p j) (cellStates p)) z (made-in (stateAt p) 0 (cellsNeeded p) k (omega arith))))))

@@ -8,9 +8,9 @@ use lib.Seq.{take-all}
 use Rattle.record.specs.Record.{total, bookOf}
 use Rattle.monitor.specs.Cells.{written}
 use Rattle.monitor.specs.Open.{marks}
-use Rattle.monitor.proofs.Written.{written-length, marks-length}
+use Rattle.monitor.proofs.Written.{written-length, marks-length, written-again, marks-again}
 use Rattle.best.specs.Search.{tableTo, SearchedTo, Fit}
-use Rattle.best.proofs.Turn.{written-again, marks-again, fit-on}
+use Rattle.best.proofs.Turn.{fit-on}
 use Rattle.best.proofs.feed_all.Statement.{statement}
 use Rattle.best.proofs.feed_all.Tie as tie
 
