@@ -1,5 +1,5 @@
 -- A stay that goes through one piece: what it is worth at its end and where that is stay the same.
-use Prim.Native.Nat.{ℕ, zero, suc, _+_, _-_, _*_, _^_, _≤_, _<_}
+use Prim.Native.Nat.{ℕ, zero, suc, _+_, _-_, _*_, _^_, _≤_, _<_, min}
 use native.Mathlib.Numerals.{add-one}
 use native.Mathlib.Omega.{arith}
 use mathlib.Core.Path.{_≡_, refl, sym, ap, _∙_}
@@ -91,7 +91,7 @@ module _ (w : Weighing) (l : Place) (n : ℕ) (ds : List ℕ) (vs : List ℤ) (f
       by false = omega (arith, mild-here, combine-size w (s .worth) (placeWorth w l (sampleAt n vs (s .piece))))
 
   -- the stay ends in the piece
-  pub ends : s .left < getD ds (s .piece) 0 - s .used
+  ends : s .left < getD ds (s .piece) 0 - s .used
       → Turned w l n ds vs first s (record { piece = s .piece; used = s .used + s .left; left = 0; worth = next })
   unfolding toCome next
   ends short =
@@ -114,7 +114,7 @@ module _ (w : Weighing) (l : Place) (n : ℕ) (ds : List ℕ) (vs : List ℤ) (f
       }
 
   -- the stay goes on in the next piece
-  pub moves : getD ds (s .piece) 0 - s .used ≤ s .left
+  moves : getD ds (s .piece) 0 - s .used ≤ s .left
       → Turned w l n ds vs first s (record { piece = s .piece + 1; used = 0; left = s .left - (getD ds (s .piece) 0 - s .used); worth = next })
   unfolding toCome next seenAt
   moves long =
@@ -142,6 +142,21 @@ module _ (w : Weighing) (l : Place) (n : ℕ) (ds : List ℕ) (vs : List ℤ) (f
             ∙ ap (λ (j : ℕ). combineFrom (weightingOf w) (s .worth) (map (placeWorth w l) (newTo o (take j B)))) all-of);
         size = omega (arith, next-size, below);
       }
+
+  -- m ticks of the piece are taken: all that the stay wants, or all that the piece has left
+  module _ (m : ℕ) (is : m ≡ min (s .left) (getD ds (s .piece) 0 - s .used)) where
+    pub taken-within : m < getD ds (s .piece) 0 - s .used
+        → Turned w l n ds vs first s (record { piece = s .piece; used = s .used + m; left = s .left - m; worth = next })
+    taken-within short =
+        let all-of : m ≡ s .left = omega arith in
+        let none-left : s .left - s .left ≡ 0 = omega arith in
+        rw (all-of, none-left) (ends (omega arith))
+
+    pub taken-whole : getD ds (s .piece) 0 - s .used ≤ m
+        → Turned w l n ds vs first s (record { piece = s .piece + 1; used = 0; left = s .left - m; worth = next })
+    taken-whole long =
+        let all-of : m ≡ getD ds (s .piece) 0 - s .used = omega arith in
+        rw all-of (moves (omega arith))
 
 -- ---- turn after turn
 

@@ -6,7 +6,7 @@ use record::samples::same_sample;
 use weighting::Weighing;
 use weighting::combine;
 ghost use mathlib.Core.Path.{_≡_};
-ghost use Prim.Native.Nat.{_+_, _*_, _≤_, _<_};
+ghost use Prim.Native.Nat.{_+_, _*_, _≤_, _<_, min};
 ghost use lib.ListN.{length};
 ghost use Rattle.record.specs.Record.{sampleAt};
 ghost use Rattle.price.specs.Walk.{seenAt, joinsTo, withPiece, Observes, Walks, Turned, Stayed};
@@ -49,7 +49,13 @@ pub fn observe(
     }
 }
 
-// The stay goes on through one piece: to its end, or to the stay's.
+pub fn least(a: u32, b: u32) -> u32
+    ensures { λ r. ⌜ r ≡ min a b ⌝ }
+{
+    if a < b { a } else { b }
+}
+
+// The stay goes on through one piece: to its end, or to the stay's. So a piece is observed once, however long it is.
 pub fn through(
     w: Weighing,
     l: Place,
@@ -65,19 +71,20 @@ pub fn through(
 {
     let piece = s.piece;
     let open = durations[piece] - s.used;
+    let taken = least(s.left, open);
     let worth = observe(w, l, channels, values, first, piece, s.worth);
-    if s.left < open {
+    if taken < open {
         Walk {
             piece: piece,
-            used: s.used + s.left,
-            left: 0,
+            used: s.used + taken,
+            left: s.left - taken,
             worth: worth,
         }
     } else {
         Walk {
             piece: piece + 1,
             used: 0,
-            left: s.left - open,
+            left: s.left - taken,
             worth: worth,
         }
     }
