@@ -6,7 +6,7 @@ use mathlib.Core.Path.{_≡_, refl, sym, ap, _∙_}
 use mathlib.Core.List.{List, [], _∷_, map, zipWith}
 use mathlib.Core.Option.{Option, none, some}
 use mathlib.Core.Bool.{Bool, true, false, cond, _&&_}
-use borrow.Author.Tests.{le-leb, lt-leb, leb-true, leb-false, ltb-true, eqb-true}
+use borrow.Author.Tests.{le-leb, lt-leb, lt-ltb, le-ltb, leb-true, leb-false, ltb-true, eqb-true}
 use lib.Dec.{T, leb}
 use lib.ListN.{length, take, drop, getD, length-drop}
 use lib.Seq.{drop-drop, length-take-le, getD-take, getD-drop, take-all}
@@ -19,7 +19,7 @@ use Rattle.pattern.specs.declared.Pattern.{Pattern}
 use Rattle.pattern.specs.Sound.{noEdge, edgeSound, soundOf}
 use Rattle.pattern.specs.InUse.{placeAt, edgeAt}
 use Rattle.pattern.specs.Kinds.{isStart, isEnd}
-use Rattle.pattern.specs.Clocks.{Clocks, clockAt, zeroClocks}
+use Rattle.pattern.specs.Clocks.{Clocks, clockAt, zeroClocks, later}
 use Rattle.pattern.specs.Distance.{placeWorth}
 use Rattle.pattern.proofs.SoundLaws.{both, edge-parts}
 use Rattle.pattern.proofs.SoundLaws as pattern-laws
@@ -32,7 +32,7 @@ use Rattle.record.specs.Run.{Step, canStep, clocksAfter, goes, isRun, lengthOf,
 use Rattle.record.specs.Worth.{stayWorth, stayWorths, runWorth, priceOf}
 use Rattle.price.specs.Price.{stepsFit}
 use Rattle.price.specs.Walk.{ahead, Walks, Stayed}
-use Rattle.price.specs.Stand.{Found, Room, scoreFrom, outcome, startOf, Held, Able, Stepped, Fit}
+use Rattle.price.specs.Stand.{Found, Room, canLeave, scoreFrom, outcome, startOf, Held, Able, Stepped, Fit}
 use Rattle.record.proofs.ListLaws.{all-at, getD-any}
 use Rattle.record.proofs.RecordLaws.{parts, part-sound, length-ticks, drop-pieces, ticks-from}
 use Rattle.record.proofs.StepLaws.{clocks-after}
@@ -51,6 +51,17 @@ edge-at-sound p k h less =
     ap (edgeSound (p .clocks) (p .placecount)) (sym (getD-take (p .edgecount) (p .edges) k noEdge less))
     ∙ all-at (edgeSound (p .clocks) (p .placecount)) (take (p .edgecount) (p .edges)) k noEdge (s .front) (omega arith) in
     (omega arith, edge-parts (p .clocks) (p .placecount) (edgeAt p k) e .fromPlace)
+
+-- a step by an edge that the pattern has
+pub can-leave : (p : Pattern) (k : ℕ) (cs : Clocks) (x : Step) → x .edge < p .edgecount
+    → canStep p k cs x ≡ canLeave (edgeAt p (x .edge)) k (x .stay) (later (x .stay) cs)
+unfolding canStep
+can-leave p k cs x h = rw (lt-ltb (x .edge) (p .edgecount) h)
+
+-- and by one that it lacks
+pub no-edge : (p : Pattern) (k : ℕ) (cs : Clocks) (x : Step) → p .edgecount ≤ x .edge → canStep p k cs x ≡ false
+unfolding canStep
+no-edge p k cs x h = rw (le-ltb (x .edge) (p .edgecount) h)
 
 module _ (p : Pattern) (ds : List ℕ) (vs : List ℤ) (s : Stand) (h : Held p ds vs s) where
   pub room : (n : ℕ) → n ≤ s .left → Room (s .clocks) n

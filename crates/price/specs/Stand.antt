@@ -3,16 +3,17 @@ use Prim.Native.Nat.{ℕ, _+_, _*_, _^_, _≤_, _<_}
 use mathlib.Core.Path.{_≡_}
 use mathlib.Core.List.{List, [], _∷_, map}
 use mathlib.Core.Option.{Option, none, some}
-use mathlib.Core.Bool.{true, cond, _&&_}
-use lib.Dec.{leb}
+use mathlib.Core.Bool.{Bool, true, cond, _&&_}
+use lib.Dec.{eqb, leb}
 use lib.ListN.{length, take, drop, getD}
 use lib.IntN.{ℤ, natAbs}
 use Rattle.weighting.specs.Weighting.{combineFrom}
 use Rattle.weighting.specs.Weightings.{weightingOf}
+use Rattle.pattern.specs.declared.Edge.{Edge}
 use Rattle.pattern.specs.declared.Pattern.{Pattern}
 use Rattle.pattern.specs.InUse.{placeAt, edgeAt}
 use Rattle.pattern.specs.Kinds.{isStart, isEnd}
-use Rattle.pattern.specs.Clocks.{Clocks, clockAt, zeroClocks}
+use Rattle.pattern.specs.Clocks.{Clocks, clockAt, zeroClocks, guardsHold}
 use Rattle.pattern.specs.Distance.{placeWorth}
 use Rattle.pattern.specs.Sound.{soundOf}
 use Rattle.price.specs.declared.Begin.{Begin}
@@ -32,6 +33,10 @@ pub record Found (durations : List ℕ) (begin : ℕ) (r : Begin) : Type 0 where
 -- The clocks can grow by n and stay below 2^32.
 abbrev pub Room : Clocks → ℕ → Type 0
 Room cs n = (k : ℕ) → clockAt cs k + n < 2 ^ 32
+
+-- An edge can be taken out of a place after a stay, the clocks having grown with it.
+abbrev pub canLeave : Edge → (place stay : ℕ) → Clocks → Bool
+canLeave e k n cs = eqb (e .from) k && leb 1 n && guardsHold cs e
 
 -- What steps come to from a place on, with the worth so far and the ticks that lie ahead.
 unfoldable pub scoreFrom : Pattern → Book → (worth : ℤ) → (place : ℕ) → Clocks → List Step → Option ℤ

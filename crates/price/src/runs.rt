@@ -4,6 +4,7 @@ use super::Priced;
 use super::Stand;
 use super::Walk;
 use super::stays::stay_in;
+use pattern::Edge;
 use pattern::Kind;
 use pattern::Pattern;
 use pattern::Refusal;
@@ -14,18 +15,16 @@ use pattern::is_start;
 use record::rules::ticks;
 use weighting::unit;
 ghost use mathlib.Core.Path.{_≡_};
-ghost use mathlib.Core.Bool.{true};
 ghost use mathlib.Core.List.{[]};
 ghost use Prim.Native.Nat.{_<_};
 ghost use lib.ListN.{length};
 ghost use Rattle.pattern.specs.InUse.{placeAt, edgeAt};
 ghost use Rattle.pattern.specs.Clocks.{later};
-ghost use Rattle.pattern.specs.Sound.{soundOf};
 ghost use Rattle.record.specs.Record.{total, bookOf};
-ghost use Rattle.record.specs.Run.{canStep, stepsOf};
+ghost use Rattle.record.specs.Run.{clocksAfter, stepsOf};
 ghost use Rattle.record.specs.Worth.{priceOf};
 ghost use Rattle.price.specs.Price.{scored};
-ghost use Rattle.price.specs.Stand.{Found, Room, outcome, startOf, scoreAt, Held, Able, Stepped, Fit};
+ghost use Rattle.price.specs.Stand.{Found, Room, canLeave, outcome, startOf, scoreAt, Held, Able, Stepped, Fit};
 
 // The begin's piece, and the ticks of it that lie before the begin.
 pub fn find(durations: &[u32], begin: u32) -> Begin
@@ -83,19 +82,11 @@ pub fn grown(clocks: [u32; 4], stay: u32) -> [u32; 4]
     ]
 }
 
-// Whether the step can be made in the place.
-pub fn can_step(p: Pattern, place: u8, clocks: [u32; 4], edge: u32, stay: u32) -> bool
-    requires { ⌜ soundOf p ≡ true ⌝ }
-    requires { ⌜ Room clocks stay ⌝ }
-    ensures { λ r. ⌜ r ≡ canStep p place clocks (record { edge = edge; stay = stay }) ⌝ }
+// Whether the edge can be taken out of the place after the stay, the clocks having grown with it.
+pub fn can_leave(e: Edge, place: u8, stay: u32, clocks: [u32; 4]) -> bool
+    ensures { λ r. ⌜ r ≡ canLeave e place stay clocks ⌝ }
 {
-    let k = edge as usize;
-    if k < (p.edgecount as usize) {
-        let e = p.edges[k];
-        (e.from == place) & (1 <= stay) & guards_hold(e, grown(clocks, stay))
-    } else {
-        false
-    }
+    (e.from == place) & (1 <= stay) & guards_hold(e, clocks)
 }
 
 // "It enters a start place at b, all clocks 0."
@@ -115,7 +106,7 @@ pub fn start(p: Pattern, edge: u32, used: u32, left: u32) -> Stand
     }
 }
 
-// The stay, then the edge, then its resets.
+// A step that can be made: the stay, then the edge, which leaves the clocks as they are given.
 pub fn take_step(
     p: Pattern,
     durations: &[u32],
@@ -123,9 +114,11 @@ pub fn take_step(
     s: Stand,
     edge: u32,
     stay: u32,
+    clocks: [u32; 4],
 ) -> Stand
     requires { ⌜ Held p (now durations) (now values) s ⌝ }
     requires { ⌜ Able p s (record { edge = edge; stay = stay }) ⌝ }
+    requires { ⌜ clocks ≡ clocksAfter p (s .clocks) (record { edge = edge; stay = stay }) ⌝ }
     ensures { λ r. ⌜ Stepped p (now (durations .entry)) (now (values .entry)) s
         (record { edge = edge; stay = stay }) r ⌝ }
 {
@@ -141,8 +134,6 @@ pub fn take_step(
         worth: s.worth,
     };
     let there = stay_in(w, l, p.channels as usize, durations, values, walk);
-    let c = s.clocks;
-    let clocks = after_resets(e, grown(c, stay));
     Stand {
         going: true,
         place: e.to,
@@ -154,17 +145,24 @@ pub fn take_step(
     }
 }
 
-// One step, if it can be made and the record has its ticks.
+// One step, if it can be made and the record has its ticks. The guards are tried on the clocks as the stay leaves them; the
+// resets come after.
 pub fn step(p: Pattern, durations: &[u32], values: &[i32], s: Stand, edge: u32, stay: u32) -> Stand
     requires { ⌜ Held p (now durations) (now values) s ⌝ }
     ensures { λ r. ⌜ Stepped p (now (durations .entry)) (now (values .entry)) s
         (record { edge = edge; stay = stay }) r ⌝ }
 {
     let c = s.clocks;
+    let k = edge as usize;
     if s.going {
         if stay <= s.left {
-            if can_step(p, s.place, c, edge, stay) {
-                return take_step(p, durations, values, s, edge, stay);
+            if k < (p.edgecount as usize) {
+                let e = p.edges[k];
+                let ticked = grown(c, stay);
+                let reset = after_resets(e, ticked);
+                if can_leave(e, s.place, stay, ticked) {
+                    return take_step(p, durations, values, s, edge, stay, reset);
+                }
             }
         }
     }

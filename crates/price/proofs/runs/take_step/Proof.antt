@@ -17,14 +17,14 @@ use native.Mathlib.Omega.{arith}
 use mathlib.Core.Path.{_≡_}
 use borrow.Author.Needs.{needs}
 use Rattle.record.proofs.StepLaws.{can-parts}
-use Rattle.price.proofs.RunLaws.{edge-at-sound, room, walks, made}
+use Rattle.price.proofs.RunLaws.{edge-at-sound, walks, made}
 use borrow.Author.Needs.{needs}
 use Rattle.price.proofs.runs.take_step.Statement.{statement}
 use Rattle.price.proofs.runs.take_step.Tie as tie
 
 -- the edge, which the pattern has
 known : (s : tie.Start) → s .args .edge < s .args .t1 .edgecount
-known s = can-parts (s .args .t1) (s .args .s .place) (s .args .s .clocks) (record { edge = s .args .edge; stay = s .args .stay }) (s .pre .1 .can) .known
+known s = can-parts (s .args .t1) (s .args .s .place) (s .args .s .clocks) (record { edge = s .args .edge; stay = s .args .stay }) (s .pre .1 .0 .can) .known
 
 in-array : (s : tie.Start) → s .args .edge < 32
 in-array s = edge-at-sound (s .args .t1) (s .args .edge) (s .pre .0 .sound) (known s) .0
@@ -70,26 +70,20 @@ reads-worth s =
 stay-in-requires : tie.Need-stay-in-requires
 stay-in-requires c κs =
     let s = c .before .before .before .before .before in
-    rw (edge-is s _, place-is s _, reads-worth s) (walks (s .args .t1) (s .args .durations .now) (s .args .values .now) (s .args .s) (s .pre .0) (s .args .edge) (s .args .stay) (known s) (s .pre .1 .fits))
+    rw (edge-is s _, place-is s _, reads-worth s) (walks (s .args .t1) (s .args .durations .now) (s .args .values .now) (s .args .s) (s .pre .0) (s .args .edge) (s .args .stay) (known s) (s .pre .1 .0 .fits))
 
-grown-requires : tie.Need-grown-requires
-grown-requires c κs = room (c .before .before .before .before .before .before .before .args .t1) (c .before .before .before .before .before .before .before .args .durations .now) (c .before .before .before .before .before .before .before .args .values .now) (c .before .before .before .before .before .before .before .args .s) (c .before .before .before .before .before .before .before .pre .0) (c .before .before .before .before .before .before .before .args .stay) (c .before .before .before .before .before .before .before .pre .1 .fits)
-
-after-resets-requires : tie.Need-after-resets-requires
-after-resets-requires c κs = search needs
-
-sub-t26 : tie.Need-sub-t26
-sub-t26 c = search needs
+sub-t24 : tie.Need-sub-t24
+sub-t24 c = search needs
 
 returns : tie.Need-returns
 returns c =
-    let s = c .before .before .before .before .before .before .before .before .before .before .before in
-    let there = c .before .before .before .before .before .stay-in in
+    let s = c .before .before .before .before .before .before .before .before in
+    let there = c .before .before .stay-in in
     let x : Step = record { edge = s .args .edge; stay = s .args .stay } in
     let stayed = rw (edge-is s _, place-is s _, reads-worth s) at (there .ensures) in
-    let small : natAbs (there .result .worth) ≤ 2 ^ 60 = let h = s .pre .0 .size in let l = s .pre .1 .fits in omega (arith, stayed .size) in
-    rw (read-back w64 (there .result .worth) (abs-fits-64 (there .result .worth) (2 ^ 60) small (omega arith)), c .before .before .after-resets .ensures, c .before .before .before .grown .ensures, edge-is s _)
-    (made (s .args .t1) (s .args .durations .now) (s .args .values .now) (s .args .s) (s .pre .0) x (there .result) (s .pre .1) stayed)
+    let small : natAbs (there .result .worth) ≤ 2 ^ 60 = let h = s .pre .0 .size in let l = s .pre .1 .0 .fits in omega (arith, stayed .size) in
+    rw (read-back w64 (there .result .worth) (abs-fits-64 (there .result .worth) (2 ^ 60) small (omega arith)), s .pre .1 .1, edge-is s _)
+    (made (s .args .t1) (s .args .durations .now) (s .args .values .now) (s .args .s) (s .pre .0) x (there .result) (s .pre .1 .0) stayed)
 
 pub take-step-spec : {M : Type 1} → statement M
 take-step-spec =
@@ -102,7 +96,5 @@ take-step-spec =
     element-copy-out-l
     cast-stay-in
     stay-in-requires
-    grown-requires
-    after-resets-requires
-    sub-t26
+    sub-t24
     returns)
