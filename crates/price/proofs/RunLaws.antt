@@ -152,6 +152,14 @@ steps-none (a ∷ es) [] i e h = absurd (omega arith)
 steps-none (a ∷ es) (b ∷ ss) zero e h = absurd (omega arith)
 steps-none (a ∷ es) (b ∷ ss) (suc i) e h = steps-none es ss i (omega arith) (omega arith)
 
+-- the steps from a place of the lists on
+pub steps-rest : (es ss : List ℕ) (i : ℕ) → length es ≡ length ss → stepsOf (drop i es) (drop i ss) ≡ drop i (stepsOf es ss)
+unfolding stepsOf zipWith
+steps-rest es ss zero e = refl
+steps-rest [] ss (suc i) e = refl
+steps-rest (a ∷ es) [] (suc i) e = absurd (omega arith)
+steps-rest (a ∷ es) (b ∷ ss) (suc i) e = steps-rest es ss i (omega arith)
+
 -- ---- what the steps come to is the run's price
 
 worths-shift : (p : Pattern) (b : Book) (t u : ℕ) (xs : List Step) → stayWorths p b (t + u) xs ≡ stayWorths p (drop t b) u xs

@@ -71,8 +71,8 @@ startOf p edge used left =
     }
 
 -- At the end: "The last edge enters an end place at e exactly."
-abbrev pub scoreAt : Pattern → Stand → Option ℤ
-scoreAt p s = cond (s .going) (cond (isEnd (placeAt p (s .place) .kind)) (some (s .worth)) none) none
+abbrev pub scoreAt : Pattern → (going : Bool) → (place : ℕ) → (worth : ℤ) → Option ℤ
+scoreAt p going k a = cond going (cond (isEnd (placeAt p k .kind)) (some a) none) none
 
 -- What holds between the steps. No clock is past the ticks so far, and each tick so far brought at most one observation.
 pub record Held (p : Pattern) (durations : List ℕ) (values : List ℤ) (s : Stand) : Type 0 where

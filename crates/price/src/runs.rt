@@ -16,7 +16,7 @@ use record::rules::ticks;
 use weighting::unit;
 ghost use mathlib.Core.Path.{_≡_};
 ghost use mathlib.Core.List.{[]};
-ghost use Prim.Native.Nat.{_<_};
+ghost use Prim.Native.Nat.{_≤_, _<_};
 ghost use lib.ListN.{length};
 ghost use Rattle.pattern.specs.InUse.{placeAt, edgeAt};
 ghost use Rattle.pattern.specs.Clocks.{later};
@@ -177,7 +177,7 @@ pub fn step(p: Pattern, durations: &[u32], values: &[i32], s: Stand, edge: u32, 
     }
 }
 
-// All steps.
+// Step after step.
 pub fn run(
     p: Pattern,
     durations: &[u32],
@@ -202,15 +202,35 @@ pub fn run(
 }
 
 // "The last edge enters an end place"
-pub fn answer(p: Pattern, s: Stand) -> Priced
-    ensures { λ r. ⌜ r ≡ scored (scoreAt p s) ⌝ }
+pub fn answer(p: Pattern, going: bool, place: u8, worth: i64) -> Priced
+    ensures { λ r. ⌜ r ≡ scored (scoreAt p going place worth) ⌝ }
 {
-    if s.going {
-        if is_end(kind_at(p, s.place)) {
-            return Priced::Score(s.worth);
+    if going {
+        if is_end(kind_at(p, place)) {
+            return Priced::Score(worth);
         }
     }
     Priced::Refused(Refusal::NotARun)
+}
+
+// "A run .. has one or more steps": the first, and then the others.
+pub fn score_from(
+    p: Pattern,
+    durations: &[u32],
+    values: &[i32],
+    s: Stand,
+    edges: &[u32],
+    stays: &[u32],
+) -> Priced
+    requires { ⌜ Held p (now durations) (now values) s ⌝ }
+    requires { ⌜ length (now edges) ≡ length (now stays) ⌝ }
+    requires { ⌜ 1 ≤ length (now edges) ⌝ }
+    ensures { λ r. ⌜ r ≡ scored (outcome p (now (durations .entry)) (now (values .entry)) s
+        (stepsOf (now (edges .entry)) (now (stays .entry)))) ⌝ }
+{
+    let first = step(p, durations, values, s, edges[0], stays[0]);
+    let end = run(p, durations, values, first, &edges[1..], &stays[1..]);
+    answer(p, end.going, end.place, end.worth)
 }
 
 // The run from the begin's piece onward, which is handed on as a part of the lent slices.
@@ -231,6 +251,5 @@ pub fn score(
     let at = piece * (p.channels as usize);
     let left = (ticks(durations) as u32) - begin;
     let s = start(p, edges[0], found.used, left);
-    let end = run(p, &durations[piece..], &values[at..], s, edges, stays);
-    answer(p, end)
+    score_from(p, &durations[piece..], &values[at..], s, edges, stays)
 }

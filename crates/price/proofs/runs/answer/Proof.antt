@@ -1,5 +1,4 @@
 -- `answer` looks at the place that the last edge enters.
-use borrow.Author.Needs.{needs}
 use mir.Syntax.{w64}
 use Rattle.integers.proofs.Casts.{read-back}
 use borrow.Author.Needs.{needs}
@@ -14,8 +13,8 @@ is-end-requires c κs = search needs
 
 returns : tie.Need-returns
 returns c =
-    let s = c .before .before .before .before .before in
-    rw (read-back w64 (s .args .s .worth) (record { sfits = c .struct-told .given .1 .1 .1 .1 .1 .1 .0 .1 }), c .before .before .before .before .if1 .taken, ← c .before .before .before .kind-at .ensures, ← c .before .before .is-end .ensures, c .before .if2 .taken)
+    let s = c .before .before .before .before in
+    rw (read-back w64 (s .args .worth) (s .fits .worth), c .before .before .before .if1 .taken, ← c .before .before .kind-at .ensures, ← c .before .is-end .ensures, c .if2 .taken)
 
 returns-2 : tie.Need-returns-2
 returns-2 c =

@@ -5,7 +5,6 @@ use borrow.Author.Needs.{needs}
 use Prim.Native.Nat.{_*_, _≤_}
 use lib.ListN.{length}
 use Rattle.price.specs.Price.{scored}
-use Rattle.price.specs.Stand.{outcome, scoreFrom}
 use Rattle.record.proofs.RecordLaws.{Parts, parts, sample-within}
 use Rattle.price.proofs.RunLaws.{Steps, steps, rest-of, atBegin, held-at-begin, outcome-at-begin}
 use borrow.Author.Needs.{needs}
@@ -51,52 +50,49 @@ shared-slice-read-start c = let e = steps-have (c .before .before .before .befor
 start-requires : tie.Need-start-requires
 start-requires c κs = search needs
 
-mul-run : tie.Need-mul-run
-mul-run c = search needs
+mul-score-from : tie.Need-mul-score-from
+mul-score-from c = search needs
 
-sub-run : tie.Need-sub-run
-sub-run c = search needs
+sub-score-from : tie.Need-sub-score-from
+sub-score-from c = search needs
 
-part-run-start : tie.Need-part-run-start
-part-run-start c = search needs
+part-score-from-start : tie.Need-part-score-from-start
+part-score-from-start c = search needs
 
-part-run-end : tie.Need-part-run-end
-part-run-end c = search needs
+part-score-from-end : tie.Need-part-score-from-end
+part-score-from-end c = search needs
 
-mul-run-2 : tie.Need-mul-run-2
-mul-run-2 c = omega (arith, values-within (c .before .before .before .before .before))
+mul-score-from-2 : tie.Need-mul-score-from-2
+mul-score-from-2 c = omega (arith, values-within (c .before .before .before .before .before))
 
-sub-run-2 : tie.Need-sub-run-2
-sub-run-2 c = values-within (c .before .before .before .before .before)
+sub-score-from-2 : tie.Need-sub-score-from-2
+sub-score-from-2 c = values-within (c .before .before .before .before .before)
 
-part-run-start-2 : tie.Need-part-run-start-2
-part-run-start-2 c = omega (arith, values-within (c .before .before .before .before .before))
+part-score-from-start-2 : tie.Need-part-score-from-start-2
+part-score-from-start-2 c = omega (arith, values-within (c .before .before .before .before .before))
 
-part-run-end-2 : tie.Need-part-run-end-2
-part-run-end-2 c = search needs
+part-score-from-end-2 : tie.Need-part-score-from-end-2
+part-score-from-end-2 c = search needs
 
 -- where the code stands at the begin
 start-is : (c : tie.After-start)
     → (let s = c .before .before .before .before .before .before .before .before in let f = c .before .before .before .before .find in c .start .result ≡ atBegin (s .args .p) (s .args .durations .now) (s .args .values .now) (s .args .begin) (s .args .edges .now) (s .args .stays .now) (s .pre) (f .result) (f .ensures))
 start-is c = c .start .ensures ∙ rw (c .before .before .ticks .ensures)
 
-run-requires : tie.Need-run-requires
-run-requires c κs =
+score-from-requires : tie.Need-score-from-requires
+score-from-requires c κs =
     let s = c .before .before .before .before .before .before .before .before .before .before in
     let f = c .before .before .before .before .before .before .find in
     let at = f .result .piece * s .args .p .channels in
-    (rw (rest-of (f .result .piece) (s .args .durations .now), rest-of at (s .args .values .now), start-is (c .before .before)) (held-at-begin (s .args .p) (s .args .durations .now) (s .args .values .now) (s .args .begin) (s .args .edges .now) (s .args .stays .now) (s .pre) (f .result) (f .ensures)), steps-have s .same)
-
-answer-requires : tie.Need-answer-requires
-answer-requires c κs = search needs
+    (rw (rest-of (f .result .piece) (s .args .durations .now), rest-of at (s .args .values .now), start-is (c .before .before)) (held-at-begin (s .args .p) (s .args .durations .now) (s .args .values .now) (s .args .begin) (s .args .edges .now) (s .args .stays .now) (s .pre) (f .result) (f .ensures)), (steps-have s .same, steps-have s .some-step))
 
 returns : tie.Need-returns
-unfolding outcome scoreFrom
-returns c = let s = c .before .before .before .before .before .before .before .before .before .before .before .before in
-    let f = c .before .before .before .before .before .before .before .before .find in
+returns c =
+    let s = c .before .before .before .before .before .before .before .before .before .before .before in
+    let f = c .before .before .before .before .before .before .before .find in
     let at = f .result .piece * s .args .p .channels in
-    let ran = rw (rest-of (f .result .piece) (s .args .durations .now), rest-of at (s .args .values .now), start-is (c .before .before .before .before)) at (c .before .run .ensures) in
-    c .answer .ensures ∙ ap scored (ran ∙ outcome-at-begin (s .args .p) (s .args .durations .now) (s .args .values .now) (s .args .begin) (s .args .edges .now) (s .args .stays .now) (s .pre) (f .result) (f .ensures))
+    let ran = rw (rest-of (f .result .piece) (s .args .durations .now), rest-of at (s .args .values .now), start-is (c .before .before .before)) at (c .score-from .ensures) in
+    ran ∙ ap scored (outcome-at-begin (s .args .p) (s .args .durations .now) (s .args .values .now) (s .args .begin) (s .args .edges .now) (s .args .stays .now) (s .pre) (f .result) (f .ensures))
 
 pub score-spec : {M : Type 1} → statement M
 score-spec =
@@ -110,14 +106,13 @@ score-spec =
     sub-left
     shared-slice-read-start
     start-requires
-    mul-run
-    sub-run
-    part-run-start
-    part-run-end
-    mul-run-2
-    sub-run-2
-    part-run-start-2
-    part-run-end-2
-    run-requires
-    answer-requires
+    mul-score-from
+    sub-score-from
+    part-score-from-start
+    part-score-from-end
+    mul-score-from-2
+    sub-score-from-2
+    part-score-from-start-2
+    part-score-from-end-2
+    score-from-requires
     returns)

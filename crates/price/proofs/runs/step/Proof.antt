@@ -57,7 +57,7 @@ element-copy-out-e c =
 grown-requires : tie.Need-grown-requires
 grown-requires c κs =
     let s = c .before .before .before .before .before .before .before in
-    room (s .args .t1) (s .args .durations .now) (s .args .values .now) (s .args .s) (s .pre) (s .args .stay) (c .before .before .if2 .taken)
+    room (s .args .t1) (s .args .durations .now) (s .args .values .now) (s .args .s) (s .pre) (s .args .stay) (omega (arith, c .before .before .if2 .taken))
 
 after-resets-requires : tie.Need-after-resets-requires
 after-resets-requires c κs = search needs
@@ -71,7 +71,7 @@ take-step-requires c κs =
     let known = c .before .before .before .before .before .if3 .taken in
     let ticked = c .before .before .before .grown in
     let can = tried s known _ (ticked .result) (c .before .can-leave .result) (ticked .ensures) (c .before .can-leave .ensures) ∙ c .if4 .taken in
-    (s .pre, (record { going = c .before .before .before .before .before .before .before .before .if1 .taken; can = can; fits = c .before .before .before .before .before .before .if2 .taken }, c .before .before .after-resets .ensures ∙ rw (ticked .ensures, edge-is s known _)))
+    (s .pre, (record { going = c .before .before .before .before .before .before .before .before .if1 .taken; can = can; fits = omega (arith, c .before .before .before .before .before .before .if2 .taken) }, c .before .before .after-resets .ensures ∙ rw (ticked .ensures, edge-is s known _)))
 
 returns : tie.Need-returns
 returns c = search needs

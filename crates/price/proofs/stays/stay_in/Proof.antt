@@ -17,7 +17,7 @@ loop-holds c =
     far-none (a .w) (a .l) (a .channels) (a .durations .now) (a .values .now) (a .s .piece) (a .s) (c .before .pre)
 
 through-requires : tie.Need-through-requires Inv-loop μ-loop
-through-requires c κs = (c .before .before .loop .inv .walks, c .if1 .taken)
+through-requires c κs = (c .before .before .loop .inv .walks, omega (arith, c .if1 .taken))
 
 loop-less : tie.Need-loop-less Inv-loop μ-loop
 loop-less c = c .through .ensures .less
