@@ -15,6 +15,7 @@ use Rattle.weighting.specs.Weighting.{combineFrom}
 use Rattle.weighting.specs.Weightings.{weightingOf}
 use Rattle.weighting.proofs.Worths.{combineFrom-combine}
 use Rattle.weighting.proofs.Sizes.{unit-size}
+use Rattle.pattern.specs.declared.Place.{Place}
 use Rattle.pattern.specs.declared.Pattern.{Pattern}
 use Rattle.pattern.specs.Sound.{noEdge, edgeSound, soundOf}
 use Rattle.pattern.specs.InUse.{placeAt, edgeAt}
@@ -40,8 +41,9 @@ use Rattle.record.proofs.PlaceLaws.{stays-worth-all, place-size, place-at-sound
 
 -- ---- a step
 
--- an edge that a sound pattern has leaves a place that it has
-pub edge-at-sound : (p : Pattern) (k : ℕ) → soundOf p ≡ true → k < p .edgecount → (k < 32) × (edgeAt p k .from < p .placecount)
+-- an edge that a sound pattern has leaves and enters places that it has
+pub edge-at-sound : (p : Pattern) (k : ℕ) → soundOf p ≡ true → k < p .edgecount
+    → (k < 32) × ((edgeAt p k .from < p .placecount) × (edgeAt p k .to < p .placecount))
 edge-at-sound p k h less =
     let s = pattern-laws.parts p h .edges in
     let f = s .few in
@@ -50,7 +52,8 @@ edge-at-sound p k h less =
     let e : edgeSound (p .clocks) (p .placecount) (edgeAt p k) ≡ true =
     ap (edgeSound (p .clocks) (p .placecount)) (sym (getD-take (p .edgecount) (p .edges) k noEdge less))
     ∙ all-at (edgeSound (p .clocks) (p .placecount)) (take (p .edgecount) (p .edges)) k noEdge (s .front) (omega arith) in
-    (omega arith, edge-parts (p .clocks) (p .placecount) (edgeAt p k) e .fromPlace)
+    let ends = edge-parts (p .clocks) (p .placecount) (edgeAt p k) e in
+    (omega arith, (ends .fromPlace, ends .toPlace))
 
 -- a step by an edge that the pattern has
 pub can-leave : (p : Pattern) (k : ℕ) (cs : Clocks) (x : Step) → x .edge < p .edgecount
@@ -67,13 +70,13 @@ module _ (p : Pattern) (ds : List ℕ) (vs : List ℤ) (s : Stand) (h : Held p d
   pub room : (n : ℕ) → n ≤ s .left → Room (s .clocks) n
   room n l k = omega (arith, h .clocks k)
 
-  -- a stay in the place that an edge of the pattern leaves
-  pub walks : (edge n : ℕ) → edge < p .edgecount → n ≤ s .left
-      → Walks (p .weighing) (placeAt p (edgeAt p edge .from)) (p .channels) ds vs (s .piece) (record { piece = s .piece; used = s .used; left = n; worth = s .worth })
-  walks edge n k l =
+  -- a stay in a place of the pattern
+  pub walks : (l : Place) (k n : ℕ) → l ≡ placeAt p k → k < p .placecount → n ≤ s .left
+      → Walks (p .weighing) l (p .channels) ds vs (s .piece) (record { piece = s .piece; used = s .used; left = n; worth = s .worth })
+  walks l k n is has fits =
       record {
         sound = h .kept;
-        mild = λ x e. place-size (p .channels) (placeAt p (edgeAt p edge .from)) x (place-at-sound p (edgeAt p edge .from) (h .sound) (edge-at-sound p edge (h .sound) k .1)) e (p .weighing);
+        mild = λ x e. rw is (place-size (p .channels) (placeAt p k) x (place-at-sound p k (h .sound) has) e (p .weighing));
         stands = h .stands;
         onward = omega arith;
         enough = let e = h .left in omega arith;

@@ -7,7 +7,10 @@ use super::stays::stay_in;
 use pattern::Edge;
 use pattern::Kind;
 use pattern::Pattern;
+use pattern::Place;
 use pattern::Refusal;
+use pattern::Sign;
+use pattern::Test;
 use pattern::clocks::after_resets;
 use pattern::clocks::guards_hold;
 use pattern::is_end;
@@ -56,17 +59,32 @@ pub fn left_by(p: Pattern, edge: u32) -> u8
     }
 }
 
-// A place's kind; plain past the last slot.
-pub fn kind_at(p: Pattern, place: u8) -> Kind
-    ensures { λ r. ⌜ r ≡ placeAt p place .kind ⌝ }
+// A place; past the last slot a plain one without tests.
+pub fn place_at(p: Pattern, place: u8) -> Place
+    ensures { λ r. ⌜ r ≡ placeAt p place ⌝ }
 {
     let k = place as usize;
     if k < 16 {
-        let l = p.places[k];
-        l.kind
+        p.places[k]
     } else {
-        Kind::Plain
+        let t = Test {
+            sign: Sign::Less,
+            channel: 0,
+            bound: 0,
+        };
+        Place {
+            kind: Kind::Plain,
+            tests: [t; 4],
+            count: 0,
+        }
     }
+}
+
+pub fn kind_at(p: Pattern, place: u8) -> Kind
+    ensures { λ r. ⌜ r ≡ placeAt p place .kind ⌝ }
+{
+    let l = place_at(p, place);
+    l.kind
 }
 
 // "every clock growing with it"
@@ -124,8 +142,7 @@ pub fn take_step(
 {
     let k = edge as usize;
     let e = p.edges[k];
-    let i = e.from as usize;
-    let l = p.places[i];
+    let l = place_at(p, e.from);
     let w = p.weighing;
     let walk = Walk {
         piece: s.piece,

@@ -8,9 +8,8 @@ use mir.Syntax.{w64}
 use Prim.Native.Nat.{_≤_, _<_, _^_}
 use Rattle.record.proofs.ListLaws.{getD-any}
 use Rattle.pattern.proofs.SoundLaws.{parts}
-use Rattle.pattern.specs.InUse.{edgeAt, placeAt}
-use Rattle.pattern.specs.Sound.{noEdge, noPlace}
-use Rattle.pattern.specs.declared.Place.{Place}
+use Rattle.pattern.specs.InUse.{edgeAt}
+use Rattle.pattern.specs.Sound.{noEdge}
 use Rattle.pattern.specs.declared.Edge.{Edge}
 use lib.ListN.{getD}
 use native.Mathlib.Omega.{arith}
@@ -18,7 +17,6 @@ use mathlib.Core.Path.{_≡_}
 use borrow.Author.Needs.{needs}
 use Rattle.record.proofs.StepLaws.{can-parts}
 use Rattle.price.proofs.RunLaws.{edge-at-sound, walks, made}
-use borrow.Author.Needs.{needs}
 use Rattle.price.proofs.runs.take_step.Statement.{statement}
 use Rattle.price.proofs.runs.take_step.Tie as tie
 
@@ -36,27 +34,11 @@ mul-e c = search needs
 edge-is : (s : tie.Start) (d : Edge) → getD (s .args .t1 .edges) (s .args .edge) d ≡ edgeAt (s .args .t1) (s .args .edge)
 edge-is s d = let e = parts (s .args .t1) (s .pre .0 .sound) .edges .long in getD-any (s .args .t1 .edges) (s .args .edge) d noEdge (omega (arith, in-array s))
 
-place-in-array : (s : tie.Start) → edgeAt (s .args .t1) (s .args .edge) .from < 16
-place-in-array s =
-    let few = parts (s .args .t1) (s .pre .0 .sound) .places .few in
-    omega (arith, edge-at-sound (s .args .t1) (s .args .edge) (s .pre .0 .sound) (known s) .1)
-
-place-is : (s : tie.Start) (d : Place) → getD (s .args .t1 .places) (edgeAt (s .args .t1) (s .args .edge) .from) d ≡ placeAt (s .args .t1) (edgeAt (s .args .t1) (s .args .edge) .from)
-place-is s d = let e = parts (s .args .t1) (s .pre .0 .sound) .places .long in getD-any (s .args .t1 .places) (edgeAt (s .args .t1) (s .args .edge) .from) d noPlace (omega (arith, place-in-array s))
-
 element-copy-out-e : tie.Need-element-copy-out-e
 element-copy-out-e c = in-array (c .before)
 
-cast-i : tie.Need-cast-i
-cast-i c = search needs
-
-mul-l : tie.Need-mul-l
-mul-l c = search needs
-
-element-copy-out-l : tie.Need-element-copy-out-l
-element-copy-out-l c =
-    let s = c .before .before .before in
-    rw (edge-is s _) (place-in-array s)
+place-at-requires : tie.Need-place-at-requires
+place-at-requires c κs = search needs
 
 cast-stay-in : tie.Need-cast-stay-in
 cast-stay-in c = search needs
@@ -69,19 +51,23 @@ reads-worth s =
 
 stay-in-requires : tie.Need-stay-in-requires
 stay-in-requires c κs =
-    let s = c .before .before .before .before .before in
-    rw (edge-is s _, place-is s _, reads-worth s) (walks (s .args .t1) (s .args .durations .now) (s .args .values .now) (s .args .s) (s .pre .0) (s .args .edge) (s .args .stay) (known s) (s .pre .1 .0 .fits))
+    let s = c .before .before .before .before in
+    let l = c .before .place-at in
+    let ends = edge-at-sound (s .args .t1) (s .args .edge) (s .pre .0 .sound) (known s) .1 in
+    rw (reads-worth s)
+    (walks (s .args .t1) (s .args .durations .now) (s .args .values .now) (s .args .s) (s .pre .0) (l .result) _ (s .args .stay) (rw (edge-is s _) at (l .ensures)) (omega (arith, ends .0, ends .1)) (s .pre .1 .0 .fits))
 
-sub-t24 : tie.Need-sub-t24
-sub-t24 c = search needs
+sub-t21 : tie.Need-sub-t21
+sub-t21 c = search needs
 
 returns : tie.Need-returns
 returns c =
-    let s = c .before .before .before .before .before .before .before .before in
+    let s = c .before .before .before .before .before .before .before in
     let there = c .before .before .stay-in in
+    let l = c .before .before .before .before .place-at in
     let x : Step = record { edge = s .args .edge; stay = s .args .stay } in
-    let stayed = rw (edge-is s _, place-is s _, reads-worth s) at (there .ensures) in
-    let small : natAbs (there .result .worth) ≤ 2 ^ 60 = let h = s .pre .0 .size in let l = s .pre .1 .0 .fits in omega (arith, stayed .size) in
+    let stayed = rw (l .ensures, edge-is s _, reads-worth s) at (there .ensures) in
+    let small : natAbs (there .result .worth) ≤ 2 ^ 60 = let h = s .pre .0 .size in let f = s .pre .1 .0 .fits in omega (arith, stayed .size) in
     rw (read-back w64 (there .result .worth) (abs-fits-64 (there .result .worth) (2 ^ 60) small (omega arith)), s .pre .1 .1, edge-is s _)
     (made (s .args .t1) (s .args .durations .now) (s .args .values .now) (s .args .s) (s .pre .0) x (there .result) (s .pre .1 .0) stayed)
 
@@ -91,10 +77,8 @@ take-step-spec =
     (tie.spec
     mul-e
     element-copy-out-e
-    cast-i
-    mul-l
-    element-copy-out-l
+    place-at-requires
     cast-stay-in
     stay-in-requires
-    sub-t24
+    sub-t21
     returns)

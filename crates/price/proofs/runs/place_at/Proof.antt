@@ -1,0 +1,32 @@
+-- `place_at` reads a place, also past the last slot.
+use native.Mathlib.Omega.{arith}
+use mathlib.Core.Path.{_≡_, sym}
+use borrow.Author.Needs.{needs}
+use lib.ListN.{length, length-map, List·getD-eq-default}
+use Rattle.pattern.specs.Sound.{noPlace}
+use Rattle.record.proofs.ListLaws.{getD-any}
+use Rattle.price.proofs.runs.place_at.Statement.{statement}
+use Rattle.price.proofs.runs.place_at.Tie as tie
+
+-- an array has as many elements as its type says
+sixteen : (c : tie.Start) → length (c .args .t1 .places) ≡ 16
+sixteen c = simp length-map at (c .good .0 .1 .1 .1 .1 .1 .1 .1 .1 .0 .1 .0 .1)
+
+mul-result : tie.Need-mul-result
+mul-result c = search needs
+
+element-copy-out-result : tie.Need-element-copy-out-result
+element-copy-out-result c = search needs
+
+returns : tie.Need-returns
+returns c =
+    let s = c .before .before in
+    getD-any (s .args .t1 .places) (s .args .place) _ noPlace (let e = sixteen s in omega (arith, c .before .if1 .taken))
+
+returns-2 : tie.Need-returns-2
+returns-2 c =
+    let s = c .before in
+    sym (List·getD-eq-default (s .args .t1 .places) noPlace (let e = sixteen s in omega (arith, c .if1 .left)))
+
+pub place-at-spec : {M : Type 1} → statement M
+place-at-spec = tie.close (tie.spec mul-result element-copy-out-result returns returns-2)
