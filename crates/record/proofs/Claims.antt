@@ -1,24 +1,24 @@
 -- The claims of specs/Claims.
 use Prim.Native.Nat.{ℕ, _+_}
-use mathlib.Core.Path.{_≡_, refl, sym, ap, subst, _∙_}
-use mathlib.Core.List.{List, [], _∷_, _++_, map, append-assoc, List·Memᴰ, List·Memᴰ·cases-cons, List·Memᴰ·not-nil}
+use mathlib.Core.Path.{_≡_, refl, sym, ap, _∙_}
+use mathlib.Core.List.{List, [], _∷_, _++_, map, append-assoc, List·Memᴰ, List·Memᴰ·head, List·Memᴰ·tail, List·Memᴰ·cases-cons, List·Memᴰ·not-nil}
 use mathlib.Core.Logic.{⊎-elim}
 use native.Mathlib.Omega.{arith}
-use mathlib.Core.Bool.{Bool, true, false, cond, not, _&&_}
-use borrow.Author.Tests.{eqb-true, eqb-false, not-true, leb-true, ltb-true, ltb-false}
-use lib.Dec.{eqb, leb, ltb}
-use lib.ListN.{length, getD, replicate, replicate-append-replicate}
-use lib.Seq.{set-out, getD-set-same, getD-set-other}
+use mathlib.Core.Option.{some}
+use mathlib.Core.Bool.{Bool, true, false, cond}
+use borrow.Author.Tests.{le-leb, leb-true}
+use lib.Dec.{leb}
+use lib.ListN.{length, replicate, replicate-append-replicate}
 use lib.IntN.{ℤ}
 use Rattle.integers.specs.Least.{minZ}
 use Rattle.integers.proofs.Tests.{is-false}
 use Rattle.integers.proofs.Least.{min-assoc, min-self}
 use Rattle.weighting.specs.declared.Weighing.the-variants.{Margin}
 use Rattle.weighting.specs.Weighting.{combineFrom}
-use Rattle.weighting.specs.Weightings.{margin}
+use Rattle.weighting.specs.Weightings.{margin, weightingOf}
+use Rattle.weighting.proofs.Worths.{combineFrom-snoc}
 use Rattle.pattern.specs.declared.Place.{Place}
 use Rattle.pattern.specs.declared.Pattern.{Pattern}
-use Rattle.pattern.specs.Sound.{noPlace}
 use Rattle.pattern.specs.Slots.{all}
 use Rattle.pattern.specs.Kinds.{isStart, isEnd}
 use Rattle.pattern.specs.Clocks.{Clocks, clockAt, zeroClocks, later, guardHolds, guardsHold}
@@ -29,7 +29,7 @@ use Rattle.record.specs.Record.{Piece, Book, ticksOf}
 use Rattle.record.specs.Joined.{sameSample, absorb, joined}
 use Rattle.record.specs.Run.{Step, canStep, clocksAfter, goes, isRun, endOf, lengthOf}
 use Rattle.record.specs.Worth.{stayWorth, stayWorths, runWorth, priceOf}
-use Rattle.record.specs.Claims.{CutsDoNotMatter, ObservedInOrder, MarginCountsTicks, EndPlaceIsSilent, ZeroGuardNeverHolds, LengthIsStays, NeverARun, withPlace}
+use Rattle.record.specs.Claims.{CutsDoNotMatter, ObservedInOrder, MarginCountsTicks, SameRuns, OnlyPlacesLeftSpeak, EndPlaceIsSilent, ZeroGuardNeverHolds, LengthIsStays, NeverARun}
 use Rattle.record.proofs.StepLaws.{later-is, can-parts}
 use Rattle.record.proofs.JoinedLaws.{same-true, joined-fresh}
 
@@ -77,45 +77,44 @@ module _ (l : Place) where
 pub margin-counts-ticks : MarginCountsTicks
 margin-counts-ticks l b = margin-from l (margin .unit) b
 
--- ---- the end place
+-- ---- places that no step leaves
 
-module _ (p : Pattern) (k : ℕ) (l : Place) where
-  other : (j : ℕ) → (j ≡ k → ⊥) → placeAt (withPlace p k l) j ≡ placeAt p j
-  other j h = getD-set-other (p .places) k j l noPlace h
+module _ (p q : Pattern) (h : SameRuns p q) where
+  can-same : (k : ℕ) (cs : Clocks) (x : Step) → canStep q k cs x ≡ canStep p k cs x
+  unfolding canStep
+  can-same k cs x = rw (h .edgecount, h .edges)
 
-  module _ (h : l .kind ≡ placeAt p k .kind) where
-    kind-at : (j : ℕ) → placeAt (withPlace p k l) j .kind ≡ placeAt p j .kind
-    kind-at j = by (eqb j k) refl
-      where
-        there : (t : Bool) → ltb k (length (p .places)) ≡ t → placeAt (withPlace p k l) k .kind ≡ placeAt p k .kind
-        there true e = ap (λ (x : Place). x .kind) (getD-set-same (p .places) k l noPlace (ltb-true k (length (p .places)) e)) ∙ h
-        there false e = ap (λ (x : List Place). getD x k noPlace .kind) (set-out (p .places) k l (ltb-false k (length (p .places)) e))
+  goes-same : (k : ℕ) (cs : Clocks) (xs : List Step) → goes q k cs xs ≡ goes p k cs xs
+  unfolding goes
+  goes-same k cs [] = ap isEnd (h .kinds k)
+  goes-same k cs (x ∷ xs) =
+      rw (goes-same (edgeAt q (x .edge) .to) (clocksAfter q cs x) xs, can-same k cs x, h .edges)
 
-        by : (t : Bool) → eqb j k ≡ t → placeAt (withPlace p k l) j .kind ≡ placeAt p j .kind
-        by true e = subst (λ (i : ℕ). placeAt (withPlace p k l) i .kind ≡ placeAt p i .kind) (sym (eqb-true j k e)) (there (ltb k (length (p .places))) refl)
-        by false e = ap (λ (x : Place). x .kind) (other j (eqb-false j k e))
+  run-same : (xs : List Step) → isRun q xs ≡ isRun p xs
+  unfolding isRun
+  run-same [] = refl
+  run-same (x ∷ xs) =
+      rw (goes-same (edgeAt q (x .edge) .from) zeroClocks (x ∷ xs), h .kinds (edgeAt q (x .edge) .from), h .edges)
 
-    goes-same : (j : ℕ) (cs : Clocks) (xs : List Step) → goes (withPlace p k l) j cs xs ≡ goes p j cs xs
-    unfolding goes canStep
-    goes-same j cs [] = ap isEnd (kind-at j)
-    goes-same j cs (x ∷ xs) = ap (_&&_ (canStep p j cs x)) (goes-same (edgeAt p (x .edge) .to) (clocksAfter p cs x) xs)
-
-    run-same : (xs : List Step) → isRun (withPlace p k l) xs ≡ isRun p xs
-    unfolding isRun
-    run-same [] = refl
-    run-same (x ∷ xs) = rw (kind-at (edgeAt p (x .edge) .from), goes-same (edgeAt p (x .edge) .from) zeroClocks (x ∷ xs))
-
-  worths-same : (b : Book) (t : ℕ) (xs : List Step) → all (λ x. not (eqb (edgeAt p (x .edge) .from) k)) xs ≡ true
-      → stayWorths (withPlace p k l) b t xs ≡ stayWorths p b t xs
+  worths-same : (b : Book) (t : ℕ) (xs : List Step)
+      → ((x : Step) → List·Memᴰ x xs → placeAt q (edgeAt p (x .edge) .from) ≡ placeAt p (edgeAt p (x .edge) .from))
+      → stayWorths q b t xs ≡ stayWorths p b t xs
   unfolding stayWorths stayWorth
   worths-same b t [] e = refl
   worths-same b t (x ∷ xs) e =
-      let h = both _ _ e in
-      rw (other (edgeAt p (x .edge) .from) (eqb-false _ _ (not-true _ (h .0))), worths-same b (t + x .stay) xs (h .1))
+      rw (worths-same b (t + x .stay) xs (λ y m. e y (List·Memᴰ·tail m)), h .weighing, h .edges, e x (List·Memᴰ·head refl))
 
-pub end-place-is-silent : EndPlaceIsSilent
+pub only-places-left-speak : OnlyPlacesLeftSpeak
 unfolding priceOf runWorth
-end-place-is-silent p b begin xs k l h e = rw (run-same p k l h xs, worths-same p k l b begin xs e)
+only-places-left-speak p q b begin xs h e = rw (run-same p q h xs, worths-same p q h b begin xs e, h .weighing)
+
+-- ---- the last step
+
+worths-last : (p : Pattern) (b : Book) (t : ℕ) (xs : List Step) (x : Step)
+    → stayWorths p b t (xs ++ x ∷ []) ≡ stayWorths p b t xs ++ stayWorth p b (edgeAt p (x .edge) .from) (endOf t xs) (x .stay) ∷ []
+unfolding stayWorths endOf
+worths-last p b t [] x = refl
+worths-last p b t (y ∷ xs) x = ap (_∷_ (stayWorth p b (edgeAt p (y .edge) .from) t (y .stay))) (worths-last p b (t + y .stay) xs x)
 
 -- ---- a guard that no clock passes after a stay
 
@@ -143,6 +142,16 @@ length-is-stays begin [] = let z : begin ≡ begin + 0 = omega arith in z
 length-is-stays begin (x ∷ xs) =
     let z : (begin + x .stay) + lengthOf xs ≡ begin + (x .stay + lengthOf xs) = omega arith in
     length-is-stays (begin + x .stay) xs ∙ z
+
+-- ---- the end place
+
+pub end-place-is-silent : EndPlaceIsSilent
+unfolding priceOf runWorth
+end-place-is-silent p b begin xs x run inside =
+    let ys = xs ++ x ∷ [] in
+    let fits : leb (begin + lengthOf ys) (length b) ≡ true = le-leb (begin + lengthOf ys) (length b) (omega (arith, length-is-stays begin ys)) in
+    rw (run, fits, worths-last p b begin xs x)
+    (ap some (combineFrom-snoc (weightingOf (p .weighing)) (weightingOf (p .weighing) .unit) (stayWorths p b begin xs) (stayWorth p b (edgeAt p (x .edge) .from) (endOf begin xs) (x .stay))))
 
 -- ---- patterns that never have a run
 

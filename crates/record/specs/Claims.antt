@@ -1,19 +1,18 @@
 -- What is proved of prices. The proofs are in proofs/.
-use Prim.Native.Nat.{ℕ, _+_, _<_}
+use Prim.Native.Nat.{ℕ, _+_, _≤_, _<_}
 use mathlib.Core.Path.{_≡_}
 use mathlib.Core.Logic.{_⊎_}
-use mathlib.Core.List.{List, _∷_, _++_, map, List·Memᴰ}
-use mathlib.Core.Bool.{true, false, not}
-use lib.Dec.{eqb}
-use lib.ListN.{length, set}
+use mathlib.Core.List.{List, [], _∷_, _++_, map, List·Memᴰ}
+use mathlib.Core.Option.{some}
+use mathlib.Core.Bool.{true, false}
+use lib.ListN.{length}
 use Rattle.weighting.specs.declared.Weighing.the-variants.{Margin}
 use Rattle.weighting.specs.Weighting.{combineAll}
-use Rattle.weighting.specs.Weightings.{margin}
+use Rattle.weighting.specs.Weightings.{margin, weightingOf}
 use Rattle.pattern.specs.declared.Sign.the-variants.{AtMost}
 use Rattle.pattern.specs.declared.Guard.{Guard}
 use Rattle.pattern.specs.declared.Place.{Place}
 use Rattle.pattern.specs.declared.Pattern.{Pattern}
-use Rattle.pattern.specs.Slots.{all}
 use Rattle.pattern.specs.Kinds.{isStart, isEnd}
 use Rattle.pattern.specs.InUse.{guardsOf, placeAt, edgeAt}
 use Rattle.pattern.specs.Clocks.{Clocks}
@@ -21,7 +20,7 @@ use Rattle.pattern.specs.Distance.{Sample, placeWorth}
 use Rattle.record.specs.Record.{Piece, Book, ticksOf}
 use Rattle.record.specs.Joined.{joined, freshAfter}
 use Rattle.record.specs.Run.{Step, canStep, isRun, endOf, lengthOf}
-use Rattle.record.specs.Worth.{priceOf}
+use Rattle.record.specs.Worth.{stayWorth, runWorth, priceOf}
 
 -- A piece cut in two, or two neighbours with equal values made one, changes no price.
 abbrev pub CutsDoNotMatter : Type 0
@@ -39,26 +38,31 @@ abbrev pub MarginCountsTicks : Type 0
 MarginCountsTicks =
     (l : Place) (b : Book) → combineAll margin (map (placeWorth Margin l) (joined b)) ≡ combineAll margin (map (placeWorth Margin l) b)
 
--- A place that no step leaves, as the end place of a run that passes it only at its end, has no say but by its kind.
-abbrev pub withPlace : Pattern → ℕ → Place → Pattern
-withPlace p k l =
-    record {
-      weighing = p .weighing;
-      channels = p .channels;
-      clocks = p .clocks;
-      low = p .low;
-      high = p .high;
-      placecount = p .placecount;
-      places = set (p .places) k l;
-      edgecount = p .edgecount;
-      edges = p .edges;
-    }
+-- Two patterns whose runs are the same: they differ at most in the tests of their places.
+pub record SameRuns (p q : Pattern) : Type 0 where
+  pub weighing : q .weighing ≡ p .weighing
+  pub edgecount : q .edgecount ≡ p .edgecount
+  pub edges : q .edges ≡ p .edges
+  pub kinds : (k : ℕ) → placeAt q k .kind ≡ placeAt p k .kind
 
+-- Only the places that steps of the run leave have a say by their tests.
+abbrev pub OnlyPlacesLeftSpeak : Type 0
+OnlyPlacesLeftSpeak =
+    (p q : Pattern) (b : Book) (begin : ℕ) (xs : List Step) → SameRuns p q
+    → ((x : Step) → List·Memᴰ x xs → placeAt q (edgeAt p (x .edge) .from) ≡ placeAt p (edgeAt p (x .edge) .from))
+    → priceOf q b begin xs ≡ priceOf p b begin xs
+
+-- "The last edge enters an end place at e exactly. No time passes there.": a last step adds its stay in the place that its
+-- edge leaves, and nothing for the place that it enters, also where the run stayed in that place before.
 abbrev pub EndPlaceIsSilent : Type 0
 EndPlaceIsSilent =
-    (p : Pattern) (b : Book) (begin : ℕ) (xs : List Step) (k : ℕ) (l : Place) → l .kind ≡ placeAt p k .kind
-    → all (λ x. not (eqb (edgeAt p (x .edge) .from) k)) xs ≡ true
-    → priceOf (withPlace p k l) b begin xs ≡ priceOf p b begin xs
+    (p : Pattern) (b : Book) (begin : ℕ) (xs : List Step) (x : Step)
+    → isRun p (xs ++ (x ∷ [])) ≡ true → endOf begin (xs ++ (x ∷ [])) ≤ length b
+    → priceOf p b begin (xs ++ (x ∷ []))
+    ≡ some
+    (weightingOf (p .weighing) .combine
+    (runWorth p b begin xs)
+    (stayWorth p b (edgeAt p (x .edge) .from) (endOf begin xs) (x .stay)))
 
 -- "After a stay every clock is at least 1, so an edge with the guard `(<= 0 0)` is never taken": of any clock that there is,
 -- also of one that the edge sets to 0.
