@@ -122,3 +122,8 @@ place-after = refl
 five : readText "(pattern sum 1 2 1 4)\n(place both (< 0 1) (< 0 1) (< 0 1) (< 0 1) (< 9 1000001))\n" ≡ refused TooMany
 unfolding readText
 five = refl
+
+-- a bound out of range, of a channel that the pattern lacks: 3 comes before 5
+range-first : readText "(pattern sum 1 2 1 4)\n(place both (< 9 1000001))\n" ≡ refused OutOfRange
+unfolding readText
+range-first = refl

@@ -1,37 +1,39 @@
 -- The claims of specs/Claims.
 use Prim.Native.Nat.{ℕ, _+_}
 use mathlib.Core.Path.{_≡_, refl, sym, ap, _∙_}
-use mathlib.Core.List.{List, [], _∷_, _++_, map, append-assoc, List·Memᴰ, List·Memᴰ·head, List·Memᴰ·tail, List·Memᴰ·cases-cons, List·Memᴰ·not-nil}
+use mathlib.Core.List.{List, [], _∷_, _++_, map, flatMap, append-assoc, List·Memᴰ, List·Memᴰ·head, List·Memᴰ·tail, List·Memᴰ·cases-cons, List·Memᴰ·not-nil}
 use mathlib.Core.Logic.{⊎-elim}
 use native.Mathlib.Omega.{arith}
-use mathlib.Core.Option.{some}
-use mathlib.Core.Bool.{Bool, true, false, cond}
+use mathlib.Core.Option.{none, some, Option·some-injective, Option·none-ne-some}
+use mathlib.Core.Bool.{Bool, true, false, cond, _&&_}
 use borrow.Author.Tests.{le-leb, leb-true}
-use lib.Dec.{leb}
-use lib.ListN.{length, replicate, replicate-append-replicate}
+use lib.Dec.{T, leb}
+use lib.ListN.{length, take, drop, replicate, replicate-append-replicate}
 use lib.IntN.{ℤ}
 use Rattle.integers.specs.Least.{minZ}
 use Rattle.integers.proofs.Tests.{is-false}
 use Rattle.integers.proofs.Least.{min-assoc, min-self}
+use Rattle.weighting.specs.declared.Weighing.{Weighing}
 use Rattle.weighting.specs.declared.Weighing.the-variants.{Margin}
-use Rattle.weighting.specs.Weighting.{combineFrom}
+use Rattle.weighting.specs.Weighting.{combineFrom, combineAll}
 use Rattle.weighting.specs.Weightings.{margin, weightingOf}
-use Rattle.weighting.proofs.Worths.{combineFrom-snoc}
+use Rattle.weighting.proofs.Worths.{combineFrom-append, combineFrom-snoc, combineFrom-all}
 use Rattle.pattern.specs.declared.Place.{Place}
 use Rattle.pattern.specs.declared.Pattern.{Pattern}
 use Rattle.pattern.specs.Slots.{all}
 use Rattle.pattern.specs.Kinds.{isStart, isEnd}
 use Rattle.pattern.specs.Clocks.{Clocks, clockAt, zeroClocks, later, guardHolds, guardsHold}
 use Rattle.pattern.specs.InUse.{guardsOf, placeAt, edgeAt}
-use Rattle.pattern.specs.Distance.{Sample, placeWorth}
+use Rattle.pattern.specs.Distance.{Sample, distancesOf, placeWorth}
 use Rattle.pattern.proofs.SoundLaws.{both}
 use Rattle.record.specs.Record.{Piece, Book, ticksOf}
-use Rattle.record.specs.Joined.{sameSample, absorb, joined}
+use Rattle.record.specs.Joined.{sameSample, absorb, joined, observed}
 use Rattle.record.specs.Run.{Step, canStep, clocksAfter, goes, isRun, endOf, lengthOf}
 use Rattle.record.specs.Worth.{stayWorth, stayWorths, runWorth, priceOf}
-use Rattle.record.specs.Claims.{CutsDoNotMatter, ObservedInOrder, MarginCountsTicks, SameRuns, OnlyPlacesLeftSpeak, EndPlaceIsSilent, ZeroGuardNeverHolds, LengthIsStays, NeverARun}
+use Rattle.record.specs.Claims.{CutsDoNotMatter, ObservedInOrder, MarginCountsTicks, distancesIn, MarginIsLeastDistance, SameRuns, OnlyPlacesLeftSpeak, EndPlaceIsSilent, ZeroGuardNeverHolds, LengthIsStays, NeverARun}
 use Rattle.record.proofs.StepLaws.{later-is, can-parts}
 use Rattle.record.proofs.JoinedLaws.{same-true, joined-fresh}
+use Rattle.record.proofs.PlaceLaws.{stays-worth-all}
 
 -- ---- cuts
 
@@ -76,6 +78,45 @@ module _ (l : Place) where
 
 pub margin-counts-ticks : MarginCountsTicks
 margin-counts-ticks l b = margin-from l (margin .unit) b
+
+-- lists of worths combined one by one, or laid end to end
+flat-from : {A : Type 0} (f : A → List ℤ) (a : ℤ) (l : List A) → T (margin .worth a)
+    → combineFrom margin a (map (λ x. combineAll margin (f x)) l) ≡ combineFrom margin a (flatMap f l)
+unfolding combineFrom flatMap
+flat-from f a [] h = refl
+flat-from f a (x ∷ l) h =
+    ap (λ (z : ℤ). combineFrom margin z (map (λ y. combineAll margin (f y)) l)) (sym (combineFrom-all margin a h (f x)))
+    ∙ flat-from f (combineFrom margin a (f x)) l (stays-worth-all Margin a (f x) h)
+    ∙ sym (combineFrom-append margin a (f x) (flatMap f l))
+
+module _ (p : Pattern) (is : p .weighing ≡ Margin) where
+  -- a stay: the least of its distances, at every tick
+  stay-least : (b : Book) (k t n : ℕ) → stayWorth p b k t n ≡ combineAll margin (flatMap (distancesOf (placeAt p k)) (take n (drop t b)))
+  unfolding stayWorth observed placeWorth
+  stay-least b k t n =
+      rw is (margin-counts-ticks (placeAt p k) (take n (drop t b)) ∙ flat-from (distancesOf (placeAt p k)) (margin .unit) (take n (drop t b)) (margin .unit-worth))
+
+  stays-least : (b : Book) (t : ℕ) (xs : List Step) (a : ℤ) → T (margin .worth a)
+      → combineFrom margin a (stayWorths p b t xs) ≡ combineFrom margin a (distancesIn p b t xs)
+  unfolding stayWorths distancesIn combineFrom
+  stays-least b t [] a h = refl
+  stays-least b t (x ∷ xs) a h =
+      let ds = flatMap (distancesOf (placeAt p (edgeAt p (x .edge) .from))) (take (x .stay) (drop t b)) in
+      ap (λ (z : ℤ). combineFrom margin z (stayWorths p b (t + x .stay) xs)) (ap (minZ a) (stay-least b (edgeAt p (x .edge) .from) t (x .stay)) ∙ sym (combineFrom-all margin a h ds))
+      ∙ stays-least b (t + x .stay) xs (combineFrom margin a ds) (stays-worth-all Margin a ds h)
+      ∙ sym (combineFrom-append margin a ds (distancesIn p b (t + x .stay) xs))
+
+pub margin-is-least-distance : MarginIsLeastDistance
+unfolding priceOf runWorth
+margin-is-least-distance p b begin xs w is e = by (isRun p xs && leb (begin + lengthOf xs) (length b)) e
+  where
+    by : (t : Bool) → cond t (some (combineAll (weightingOf (p .weighing)) (stayWorths p b begin xs))) none ≡ some w
+        → w ≡ combineAll margin (distancesIn p b begin xs)
+    by true k =
+        sym (Option·some-injective _ w k)
+        ∙ ap (λ (v : Weighing). combineAll (weightingOf v) (stayWorths p b begin xs)) is
+        ∙ stays-least p is b begin xs (margin .unit) (margin .unit-worth)
+    by false k = absurd (Option·none-ne-some w k)
 
 -- ---- places that no step leaves
 

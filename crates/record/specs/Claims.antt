@@ -2,10 +2,11 @@
 use Prim.Native.Nat.{ℕ, _+_, _≤_, _<_}
 use mathlib.Core.Path.{_≡_}
 use mathlib.Core.Logic.{_⊎_}
-use mathlib.Core.List.{List, [], _∷_, _++_, map, List·Memᴰ}
+use mathlib.Core.List.{List, [], _∷_, _++_, map, flatMap, List·Memᴰ}
 use mathlib.Core.Option.{some}
 use mathlib.Core.Bool.{true, false}
-use lib.ListN.{length}
+use lib.ListN.{length, take, drop}
+use lib.IntN.{ℤ}
 use Rattle.weighting.specs.declared.Weighing.the-variants.{Margin}
 use Rattle.weighting.specs.Weighting.{combineAll}
 use Rattle.weighting.specs.Weightings.{margin, weightingOf}
@@ -16,7 +17,7 @@ use Rattle.pattern.specs.declared.Pattern.{Pattern}
 use Rattle.pattern.specs.Kinds.{isStart, isEnd}
 use Rattle.pattern.specs.InUse.{guardsOf, placeAt, edgeAt}
 use Rattle.pattern.specs.Clocks.{Clocks}
-use Rattle.pattern.specs.Distance.{Sample, placeWorth}
+use Rattle.pattern.specs.Distance.{Sample, distancesOf, placeWorth}
 use Rattle.record.specs.Record.{Piece, Book, ticksOf}
 use Rattle.record.specs.Joined.{joined, freshAfter}
 use Rattle.record.specs.Run.{Step, canStep, isRun, endOf, lengthOf}
@@ -37,6 +38,18 @@ ObservedInOrder = (x : Sample) (b : Book) → joined (x ∷ b) ≡ x ∷ freshAf
 abbrev pub MarginCountsTicks : Type 0
 MarginCountsTicks =
     (l : Place) (b : Book) → combineAll margin (map (placeWorth Margin l) (joined b)) ≡ combineAll margin (map (placeWorth Margin l) b)
+
+-- Every distance of the steps' stays: of each test of the place that a step leaves, at each tick of its stay.
+unfoldable pub distancesIn : Pattern → Book → (t : ℕ) → List Step → List ℤ
+distancesIn p b t [] = []
+distancesIn p b t (x ∷ xs) =
+    flatMap (distancesOf (placeAt p (edgeAt p (x .edge) .from))) (take (x .stay) (drop t b)) ++ distancesIn p b (t + x .stay) xs
+
+-- In margin a run's price is the least of them all; 2,000,001 if there is none (`margin`'s unit).
+abbrev pub MarginIsLeastDistance : Type 0
+MarginIsLeastDistance =
+    (p : Pattern) (b : Book) (begin : ℕ) (xs : List Step) (w : ℤ) → p .weighing ≡ Margin
+    → priceOf p b begin xs ≡ some w → w ≡ combineAll margin (distancesIn p b begin xs)
 
 -- Two patterns whose runs are the same: they differ at most in the tests of their places.
 pub record SameRuns (p q : Pattern) : Type 0 where
