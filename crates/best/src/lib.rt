@@ -7,10 +7,11 @@ use monitor::State;
 use pattern::Pattern;
 use pattern::Refusal;
 use pattern::sound;
+use record::rules::least;
 use record::rules::record_sound;
 use weighting::at_least;
 ghost use mathlib.Core.Path.{_≡_};
-ghost use Prim.Native.Nat.{_+_, _≤_, _<_, min};
+ghost use Prim.Native.Nat.{_+_, _≤_, _<_};
 ghost use mathlib.Core.Option.{none};
 ghost use lib.ListN.{length, take};
 ghost use Rattle.record.specs.Record.{total, bookOf};
@@ -124,13 +125,6 @@ fn feed_some(
         state: later,
         choice: choice,
     }
-}
-
-// The lesser of two counts of ticks.
-fn least(a: u32, b: u32) -> u32
-    ensures { λ r. ⌜ r ≡ min a b ⌝ }
-{
-    if a < b { a } else { b }
 }
 
 // One piece, in chunks.

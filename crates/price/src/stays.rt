@@ -2,11 +2,12 @@
 use super::Walk;
 use pattern::Place;
 use pattern::distance::place_worth;
+use record::rules::least;
 use record::samples::same_sample;
 use weighting::Weighing;
 use weighting::combine;
 ghost use mathlib.Core.Path.{_≡_};
-ghost use Prim.Native.Nat.{_+_, _*_, _≤_, _<_, min};
+ghost use Prim.Native.Nat.{_+_, _*_, _≤_, _<_};
 ghost use lib.ListN.{length};
 ghost use Rattle.record.specs.Record.{sampleAt};
 ghost use Rattle.price.specs.Walk.{seenAt, joinsTo, withPiece, Observes, Walks, Turned, Stayed};
@@ -47,12 +48,6 @@ pub fn observe(
         let past = at + channels;
         combine(w, worth, place_worth(w, l, &values[at..past]))
     }
-}
-
-pub fn least(a: u32, b: u32) -> u32
-    ensures { λ r. ⌜ r ≡ min a b ⌝ }
-{
-    if a < b { a } else { b }
 }
 
 // The stay goes on through one piece: to its end, or to the stay's. So a piece is observed once, however long it is.

@@ -1,6 +1,6 @@
 // A record's rules.
 ghost use mathlib.Core.Path.{_≡_};
-ghost use Prim.Native.Nat.{_≤_};
+ghost use Prim.Native.Nat.{_≤_, min};
 ghost use lib.Dec.{leb};
 ghost use lib.ListN.{length};
 ghost use Rattle.pattern.specs.Slots.{all};
@@ -31,6 +31,13 @@ pub fn ticks(durations: &[u32]) -> u64
         i += 1;
     }
     sum
+}
+
+// The lesser of two counts of ticks.
+pub fn least(a: u32, b: u32) -> u32
+    ensures { λ r. ⌜ r ≡ min a b ⌝ }
+{
+    if a < b { a } else { b }
 }
 
 pub fn in_range(value: i32) -> bool

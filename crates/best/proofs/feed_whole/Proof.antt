@@ -13,10 +13,6 @@ use Rattle.best.specs.Search.{tableTo, SearchedTo}
 use Rattle.best.proofs.Turn.{onward, room-on}
 use Rattle.best.proofs.feed_whole.Statement.{statement}
 use Rattle.best.proofs.feed_whole.Tie as tie
-use Rattle.best.proofs.feed_whole.Reads as reads
-use Rattle.best.proofs.feed_whole.Lts as lts
-use Rattle.best.proofs.feed_some.Reads as feed-some-reads
-use Rattle.best.proofs.least.Reads as least-reads
 
 abbrev Inv-loop : tie.InvT-loop
 Inv-loop p durations values piece first₀ second₀ channels at past left₀ search₀ first second left search =

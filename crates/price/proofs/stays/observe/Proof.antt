@@ -4,21 +4,11 @@ use Rattle.pattern.specs.Distance.{placeWorth}
 use Rattle.integers.proofs.Casts.{read-back}
 use mir.Val.{toZ, ofZ}
 use mir.Syntax.{w64}
-use lib.IntN.{ℤ}
-use lib.ListN.{take, drop}
-use mathlib.Core.List.{List}
-use Prim.Native.Nat.{ℕ, _+_, _*_, _-_}
-use native.Mathlib.Omega.{arith}
 use mathlib.Core.Path.{_≡_, ap, _∙_}
 use borrow.Author.Needs.{needs}
-use borrow.Author.Needs.{needs}
+use Rattle.record.proofs.RecordLaws.{part-sample}
 use Rattle.price.proofs.stays.observe.Statement.{statement}
 use Rattle.price.proofs.stays.observe.Tie as tie
-
--- what the part of the values reads
-part-is : (n i : ℕ) (vs : List ℤ) → take (i * n + n - i * n) (drop (i * n) vs) ≡ sampleAt n vs i
-unfolding sampleAt
-part-is n i vs = let e : i * n + n - i * n ≡ n = omega arith in rw e
 
 reads-place-worth : (c : tie.After-place-worth)
     → toZ w64 (ofZ w64 (c .place-worth .result)) ≡ placeWorth (c .before .before .before .before .args .w) (c .before .before .before .before .args .l) (sampleAt (c .before .before .before .before .args .channels) (c .before .before .before .before .args .values .now) (c .before .before .before .before .args .piece))
@@ -26,7 +16,7 @@ reads-place-worth c =
     let a = c .before .before .before .before .args in
     read-back w64 (c .place-worth .result) (record { sfits = c .place-worth .ok })
     ∙ c .place-worth .ensures
-    ∙ ap (placeWorth (a .w) (a .l)) (part-is (a .channels) (a .piece) (a .values .now))
+    ∙ ap (placeWorth (a .w) (a .l)) (part-sample (a .channels) (a .piece) (a .values .now))
 
 joins-requires : tie.Need-joins-requires
 joins-requires c κs = search needs
