@@ -62,8 +62,8 @@ fn put_test(text: &mut [u8], at: usize, t: Test) -> usize
 {
     let s = t.sign;
     let n = put_sign(text, at, s);
-    let n = put_number_and(text, n, t.channel as u32, b' ');
-    let n = put_integer(text, n, t.bound);
+    let n = put_number_and(text, n, t.channel as u64, b' ');
+    let n = put_integer(text, n, t.bound as i64);
     put_byte(text, n, b')')
 }
 
@@ -73,8 +73,8 @@ fn put_guard(text: &mut [u8], at: usize, g: Guard) -> usize
 {
     let s = g.sign;
     let n = put_sign(text, at, s);
-    let n = put_number_and(text, n, g.clock as u32, b' ');
-    put_number_and(text, n, g.bound as u32, b')')
+    let n = put_number_and(text, n, g.clock as u64, b' ');
+    put_number_and(text, n, g.bound as u64, b')')
 }
 
 // The tests in use, one after the other.
@@ -124,7 +124,7 @@ fn put_flag(text: &mut [u8], at: usize, begun: bool, flag: bool, clock: u32) -> 
 {
     if flag {
         let n = put_before(text, at, begun);
-        return put_number(text, n, clock);
+        return put_number(text, n, clock as u64);
     }
     at
 }
@@ -172,8 +172,8 @@ fn put_edge(text: &mut [u8], at: usize, e: Edge) -> usize
     ensures { λ r. ⌜ Put (now (text .entry)) (now (text .exit)) at r (edgeText e) ⌝ }
 {
     let n = put_word(text, at, b"(edge ");
-    let n = put_number_and(text, n, e.from as u32, b' ');
-    let n = put_number(text, n, e.to as u32);
+    let n = put_number_and(text, n, e.from as u64, b' ');
+    let n = put_number(text, n, e.to as u64);
     let n = put_guards(text, n, e);
     let n = put_resets(text, n, e);
     let n = put_byte(text, n, b')');
@@ -187,10 +187,10 @@ fn put_header(text: &mut [u8], at: usize, p: Pattern) -> usize
     let w = p.weighing;
     let n = put_word(text, at, b"(pattern ");
     let n = put_weighing(text, n, w);
-    let n = put_number_and(text, n, p.channels as u32, b' ');
-    let n = put_number_and(text, n, p.clocks as u32, b' ');
-    let n = put_number_and(text, n, p.low as u32, b' ');
-    let n = put_number_and(text, n, p.high as u32, b')');
+    let n = put_number_and(text, n, p.channels as u64, b' ');
+    let n = put_number_and(text, n, p.clocks as u64, b' ');
+    let n = put_number_and(text, n, p.low as u64, b' ');
+    let n = put_number_and(text, n, p.high as u64, b')');
     put_byte(text, n, b'\n')
 }
 

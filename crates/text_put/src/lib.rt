@@ -34,14 +34,14 @@ pub fn put_word(text: &mut [u8], at: usize, word: &[u8]) -> usize
 }
 
 // The last digit of a number; `0` is the byte 48.
-fn put_digit(text: &mut [u8], at: usize, number: u32) -> usize
+fn put_digit(text: &mut [u8], at: usize, number: u64) -> usize
     ensures { λ r. ⌜ Put (now (text .entry)) (now (text .exit)) at r ((48 + number % 10) ∷ []) ⌝ }
 {
     put_byte(text, at, 48 + (number % 10) as u8)
 }
 
 // A number in base ten.
-pub fn put_number(text: &mut [u8], at: usize, number: u32) -> usize
+pub fn put_number(text: &mut [u8], at: usize, number: u64) -> usize
     ensures { λ r. ⌜ Put (now (text .entry)) (now (text .exit)) at r (decimal number) ⌝ }
 {
     if number < 10 {
@@ -52,7 +52,7 @@ pub fn put_number(text: &mut [u8], at: usize, number: u32) -> usize
 }
 
 // A number and a byte after it.
-pub fn put_number_and(text: &mut [u8], at: usize, number: u32, byte: u8) -> usize
+pub fn put_number_and(text: &mut [u8], at: usize, number: u64, byte: u8) -> usize
     ensures { λ r. ⌜ Put (now (text .entry)) (now (text .exit)) at r (decimal number ++ (byte ∷ [])) ⌝ }
 {
     let n = put_number(text, at, number);
@@ -60,18 +60,18 @@ pub fn put_number_and(text: &mut [u8], at: usize, number: u32, byte: u8) -> usiz
 }
 
 // A number without its sign.
-fn magnitude(number: i32) -> u32
+fn magnitude(number: i64) -> u64
     ensures { λ r. ⌜ r ≡ natAbs number ⌝ }
 {
     if number < 0 {
-        (0 - number as i64) as u32
+        (-1 - number) as u64 + 1
     } else {
-        number as u32
+        number as u64
     }
 }
 
 // A number that may be negative.
-pub fn put_integer(text: &mut [u8], at: usize, number: i32) -> usize
+pub fn put_integer(text: &mut [u8], at: usize, number: i64) -> usize
     ensures { λ r. ⌜ Put (now (text .entry)) (now (text .exit)) at r (writeℤ number) ⌝ }
 {
     let size = magnitude(number);

@@ -1,6 +1,5 @@
 -- A test, part by part.
-use mir.Syntax.{w32}
-use mir.Facts.{toZ-ofZ}
+use Rattle.integers.proofs.Casts.{widen-fits, widen-back}
 use Rattle.pattern_text.specs.Form.{_⨾_, _◂_, mapped, oneOf, number, integer}
 use Rattle.pattern_text.specs.Line.{sign, test}
 use Rattle.text_put.proofs.PutLaws.{put-then}
@@ -17,6 +16,9 @@ cast-put-number-and c = search needs
 put-number-and-requires : tie.Need-put-number-and-requires
 put-number-and-requires c κs = search needs
 
+cast-put-integer : tie.Need-cast-put-integer
+cast-put-integer c = widen-fits (c .before .before .before .before .before .before .before .before .before .before .before .before .before .args .t .bound) (record { sfits = c .struct-told .given .1 .1 .0 .1 })
+
 put-integer-requires : tie.Need-put-integer-requires
 put-integer-requires c κs = search needs
 
@@ -31,9 +33,9 @@ unfolding test mapped _⨾_ _◂_ sign oneOf number integer
 returns c =
     let close = c .before .before in
     let bound = close .before .before .before .before in
-    let channel = bound .before .before .before .before .before in
+    let channel = bound .before .before .before .before .before .before in
     let first = channel .before .before .before .before .before in
-    let back = toZ-ofZ {w = w32} {z = bound .before .before .before .before .before .before .before .before .before .before .before .before .before .args .t .bound} (record { sfits = bound .before .struct-told .given .1 .1 .0 .1 }) in
+    let back = widen-back (bound .before .before .before .before .before .before .before .before .before .before .before .before .before .before .args .t .bound) (record { sfits = bound .before .struct-told .given .1 .1 .0 .1 }) in
     put-then (first .put-sign .ensures) (put-then (channel .put-number-and .ensures) (put-then (rw back at (bound .put-integer .ensures)) (close .put-byte .ensures)))
 
 pub put-test-spec : {M : Type 1} → statement M
@@ -43,6 +45,7 @@ put-test-spec =
     put-sign-requires
     cast-put-number-and
     put-number-and-requires
+    cast-put-integer
     put-integer-requires
     put-byte-requires
     same-length

@@ -8,7 +8,7 @@ use native.Mathlib.Omega.{arith}
 use borrow.Author.Tests.{ltb-true}
 use lib.IntN.{ℤ, pos, negsuc, natAbs}
 use lib.Signed.{ltZ}
-use mir.Syntax.{w32}
+use mir.Syntax.{w64}
 use mir.Val.{toZ, ofZ}
 use mir.Facts.{toZ-ofZ}
 use Rattle.pattern_text.specs.Bytes.{Bytes}
@@ -46,7 +46,7 @@ module _ (c : tie.After-magnitude) where
   abbrev Z : ℤ
   Z = c .before .before .args .number
 
-  back : toZ w32 (ofZ w32 Z) ≡ Z
+  back : toZ w64 (ofZ w64 Z) ≡ Z
   back = toZ-ofZ (c .before .before .fits .number)
 
   sized : c .magnitude .result ≡ natAbs Z
