@@ -1,0 +1,2 @@
+-- What `watch` shows.
+pub mod Shown
