@@ -126,3 +126,8 @@ begins-inside p sound b end zero score e = omega arith
 begins-inside p sound b end (suc len) score e =
     let k = subst (Told p b (length b)) (sym e) (best-of-record p sound b) in
     lasts p sound b end (suc len) score (k .attained) .1
+
+-- a run that is reported begins in the book
+pub report-inside : (p : Pattern) → soundOf p ≡ true → (b : Book) (end : ℕ) → end ≤ length b → lengthAt p b end ≤ end
+report-inside p sound b end h =
+    ⊎-elim (λ r. lasts p sound b end (lengthAt p b end) (scoreAt p b end) (r .attained) .1) (λ r. let e = r .noLength in omega arith) (report-right p sound b end h)

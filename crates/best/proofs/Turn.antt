@@ -6,7 +6,7 @@ use mathlib.Core.List.{List}
 use mathlib.Core.Option.{Option}
 use mathlib.Core.Bool.{true}
 use lib.ListN.{length, take, drop, getD, length-take, length-drop}
-use lib.IntN.{ℤ}
+use lib.IntN.{ℤ, pos}
 use Rattle.pattern.specs.declared.Pattern.{Pattern}
 use Rattle.pattern.specs.Slots.{all}
 use Rattle.pattern.specs.Sound.{soundOf}
@@ -25,7 +25,7 @@ use Rattle.monitor.specs.Feed.{Call, feedState, feedFirst, feedSecond, feedScor
 use Rattle.monitor.proofs.Written.{written-length, marks-length, written-again, marks-again}
 use Rattle.monitor.proofs.Between.{Fine}
 use Rattle.best.specs.declared.Search.{Search}
-use Rattle.best.specs.Best.{Chosen, chosenTo}
+use Rattle.best.specs.Best.{Chosen, chosenTo, scoreAt, lengthAt}
 use Rattle.best.specs.Search.{tableTo, stateTo, chosenIn, chosenPast, chunkOf, SearchedTo, Fit}
 use Rattle.best.proofs.Choices.{past-is}
 use Rattle.best.proofs.Pieces.{fine-tick, front, rest, start, split, front-long, book-long, start-low}
@@ -39,6 +39,8 @@ pub record Turned (p : Pattern) (B : Book) (q : State) (o : Option Chosen) (t u 
   pub choice : chosenPast p o (q .ticks) (feedScores p q t u c) (feedLengths p q t u c) (c .duration) ≡ chosenTo p B (n + c .duration)
   pub first : feedFirst p q t u c ≡ written p (tableTo p B (n + c .duration)) t
   pub second : feedSecond p q t u c ≡ marks p u
+  pub reports : (i : ℕ) → i < c .duration
+      → (getD (feedScores p q t u c) i (pos 0) ≡ scoreAt p B (n + i + 1)) × (getD (feedLengths p q t u c) i 0 ≡ lengthAt p B (n + i + 1))
 
 module _ (p : Pattern) (sound : soundOf p ≡ true) (b : Book) (c : Call) (after : Book) (value : Fine p (c .values))
     (some-ticks : 1 ≤ c .duration) (short : c .duration ≤ 65535) (scores : c .duration ≤ length (c .scores)) (lengths : c .duration ≤ length (c .lengths))
@@ -55,14 +57,19 @@ module _ (p : Pattern) (sound : soundOf p ≡ true) (b : Book) (c : Call) (after
       subst (λ (r : State). Turned p W r o t u c (length b)) (sym state)
       (record {
         state = state-after p sound b c after few fine value some-ticks short scores lengths t u firstLong secondLong first;
-        choice = past-is p W (length b) _ _ o (c .duration) chosen
-            (λ j l. (
-              score-after p sound b c after few fine value some-ticks short scores lengths t u firstLong secondLong first j l,
-              length-after p sound b c after few fine value some-ticks short scores lengths t u firstLong secondLong first j l,
-            ));
+        choice = past-is p W (length b) _ _ o (c .duration) chosen told;
+        reports = told;
         first = first-after p sound b c after few fine value some-ticks short scores lengths t u firstLong secondLong first;
         second = second-after p sound b c after few fine value some-ticks short scores lengths t u firstLong secondLong first;
       })
+    where
+      told : (j : ℕ) → j < c .duration
+          → (getD (feedScores p (stateTo p (whole p sound b c after) (length b)) t u c) j (pos 0) ≡ scoreAt p (whole p sound b c after) (length b + j + 1))
+          × (getD (feedLengths p (stateTo p (whole p sound b c after) (length b)) t u c) j 0 ≡ lengthAt p (whole p sound b c after) (length b + j + 1))
+      told j l = (
+        score-after p sound b c after few fine value some-ticks short scores lengths t u firstLong secondLong first j l,
+        length-after p sound b c after few fine value some-ticks short scores lengths t u firstLong secondLong first j l,
+      )
 
   pub stepped : (B : Book) (n : ℕ) → whole p sound b c after ≡ B → length b ≡ n → Step B n
   stepped B n is long = subst (Step B) long (subst (λ (w : Book). Step w (length b)) is base)

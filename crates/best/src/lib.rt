@@ -63,7 +63,7 @@ fn choose(p: Pattern, f: Choice, end: u32, score: i64, length: u32) -> Choice
 }
 
 // The first `count` reports of a stretch that begins after `ticks` ticks.
-fn choose_all(
+pub fn choose_all(
     p: Pattern,
     f: Choice,
     ticks: u32,

@@ -32,7 +32,7 @@ use Rattle.pattern_text.proofs.Value.{all-join, lined, ranged}
 
 -- ---- numbers and words
 
-few-digits : (k n : ℕ) → n < 10 ^ suc k → length (decimal n) ≤ suc k
+pub few-digits : (k n : ℕ) → n < 10 ^ suc k → length (decimal n) ≤ suc k
 few-digits zero n h = rw (decimal-small n (omega arith)) (omega arith)
 few-digits (suc k) n h = by-test (ltb n 10)
     (λ t. rw (decimal-small n (ltb-true n 10 t)) (omega arith))

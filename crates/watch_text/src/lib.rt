@@ -6,8 +6,8 @@ use text_put::put_byte;
 use text_put::put_integer;
 use text_put::put_number_and;
 use text_put::put_word;
-ghost use Prim.Native.Nat.{ℕ, _+_, _≤_, _<_};
-ghost use lib.ListN.{length, getD};
+ghost use Prim.Native.Nat.{ℕ, _+_, _*_, _≤_, _<_};
+ghost use lib.ListN.{length, length as size, getD};
 ghost use Rattle.best.specs.Search.{chosenIn};
 ghost use Rattle.text_put.specs.Put.{Put};
 ghost use Rattle.watch_text.specs.Shown.{refusedText, heading, rowText, rowFor, rowsPast, bestText};
@@ -15,6 +15,7 @@ ghost use Rattle.watch_text.specs.Shown.{refusedText, heading, rowText, 
 // `refused 11`
 pub fn put_refused(text: &mut [u8], at: usize, r: Refusal) -> usize
     ensures { λ n. ⌜ Put (now (text .entry)) (now (text .exit)) at n (refusedText r) ⌝ }
+    ensures { λ _. ⌜ size (refusedText r) ≤ 128 ⌝ }
 {
     let n = put_word(text, at, b"refused ");
     put_number_and(text, n, number(r) as u64, b'\n')
@@ -30,6 +31,7 @@ pub fn put_heading(text: &mut [u8], at: usize) -> usize
 // `2 0 5`
 fn put_row(text: &mut [u8], at: usize, end: u32, begin: u32, score: i64) -> usize
     ensures { λ n. ⌜ Put (now (text .entry)) (now (text .exit)) at n (rowText end begin score) ⌝ }
+    ensures { λ _. ⌜ size (rowText end begin score) ≤ 64 ⌝ }
 {
     let n = put_number_and(text, at, end as u64, b' ');
     let n = put_number_and(text, n, begin as u64, b' ');
@@ -41,6 +43,7 @@ fn put_row(text: &mut [u8], at: usize, end: u32, begin: u32, score: i64) -> usiz
 fn put_report(text: &mut [u8], at: usize, end: u32, score: i64, length: u32) -> usize
     requires { ⌜ length ≤ end ⌝ }
     ensures { λ n. ⌜ Put (now (text .entry)) (now (text .exit)) at n (rowFor end score length) ⌝ }
+    ensures { λ _. ⌜ size (rowFor end score length) ≤ 64 ⌝ }
 {
     if length == 0 {
         at
@@ -62,6 +65,7 @@ pub fn put_reports(
         × ((i : ℕ) → i < count → getD (now lengths) i 0 ≤ ticks + i + 1) ⌝ }
     ensures { λ n. ⌜ Put (now (text .entry)) (now (text .exit)) at n
         (rowsPast ticks (now (scores .entry)) (now (lengths .entry)) count) ⌝ }
+    ensures { λ _. ⌜ size (rowsPast ticks (now (scores .entry)) (now (lengths .entry)) count) ≤ 64 * count ⌝ }
 {
     let mut n = at;
     let mut i: u32 = 0;
@@ -77,6 +81,7 @@ pub fn put_reports(
 pub fn put_best(text: &mut [u8], at: usize, f: Choice) -> usize
     requires { ⌜ f .length ≤ f .end ⌝ }
     ensures { λ n. ⌜ Put (now (text .entry)) (now (text .exit)) at n (bestText (chosenIn f)) ⌝ }
+    ensures { λ _. ⌜ size (bestText (chosenIn f)) ≤ 128 ⌝ }
 {
     if f.length == 0 {
         return put_word(text, at, b"best none\n");

@@ -1,4 +1,5 @@
 -- The last line.
+use native.Mathlib.Omega.{arith}
 use borrow.Author.Needs.{needs}
 use mathlib.Core.Path.{_≡_}
 use mir.Syntax.{w64}
@@ -7,6 +8,7 @@ use Rattle.text_put.proofs.PutLaws.{put-then}
 use Rattle.best.specs.Search.{chosenBy}
 use Rattle.best.proofs.Choices.{is-run}
 use Rattle.watch_text.specs.Shown.{bestText}
+use Rattle.watch_text.proofs.Sizes.{best-short}
 use Rattle.watch_text.proofs.put_best.Statement.{statement}
 use Rattle.watch_text.proofs.put_best.Tie as tie
 
@@ -23,7 +25,7 @@ returns : tie.Need-returns
 unfolding bestText chosenBy
 returns c =
     let word = c .before .before in
-    rw (word .before .before .before .if1 .taken) (word .put-word .ensures)
+    rw (word .before .before .before .if1 .taken) (word .put-word .ensures, omega arith)
 
 slice-aggregate-put-word-2 : tie.Need-slice-aggregate-put-word-2
 slice-aggregate-put-word-2 c = search needs
@@ -48,7 +50,8 @@ returns-2 c =
     let st = word .before .before .before .before .before .before in
     let f = st .args .f in
     let back : toZ w64 (ofZ w64 (f .score)) ≡ f .score = search needs in
-    rw (is-run (f .end) (f .length) (f .score) (word .before .before .before .if1 .left)) (put-then (word .put-word2 .ensures) (rw back at (row .put-row .ensures)))
+    let o = rw back at (row .put-row .ensures) in
+    rw (is-run (f .end) (f .length) (f .score) (word .before .before .before .if1 .left)) (put-then (word .put-word2 .ensures) (o .0), best-short _ _ _ (o .1))
 
 pub put-best-spec : {M : Type 1} → statement M
 put-best-spec =

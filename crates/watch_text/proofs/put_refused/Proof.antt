@@ -1,6 +1,8 @@
+use native.Mathlib.Omega.{arith}
 use borrow.Author.Needs.{needs}
 use Rattle.text_put.proofs.PutLaws.{put-then}
 use Rattle.watch_text.specs.Shown.{refusedText}
+use Rattle.watch_text.proofs.Sizes.{refused-short}
 use Rattle.watch_text.proofs.put_refused.Statement.{statement}
 use Rattle.watch_text.proofs.put_refused.Tie as tie
 
@@ -27,7 +29,7 @@ unfolding refusedText
 returns c =
     let number = c .before .before in
     let word = number .before .before .before .before .before in
-    put-then (word .put-word .ensures) (rw (number .before .number .ensures) at (number .put-number-and .ensures))
+    (put-then (word .put-word .ensures) (rw (number .before .number .ensures) at (number .put-number-and .ensures)), refused-short (word .before .before .before .before .args .r) (let e = number .before .number .ensures in let o = number .before .number .ok in omega arith))
 
 pub put-refused-spec : {M : Type 1} → statement M
 put-refused-spec =

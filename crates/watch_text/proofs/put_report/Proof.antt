@@ -1,4 +1,5 @@
 -- A line, or none.
+use native.Mathlib.Omega.{arith}
 use borrow.Author.Needs.{needs}
 use borrow.Author.Tests.{ne-eqb}
 use mir.Syntax.{w64}
@@ -17,7 +18,7 @@ put-row-requires c κs = search needs
 
 returns : tie.Need-returns
 unfolding rowFor
-returns c = rw (c .if1 .taken) (put-none _ _)
+returns c = rw (c .if1 .taken) (put-none _ _, omega arith)
 
 same-length : tie.Need-same-length
 same-length c = search needs

@@ -1,5 +1,5 @@
 -- Report by report.
-use Prim.Native.Nat.{ℕ, _+_, _-_, _≤_, zero-le}
+use Prim.Native.Nat.{ℕ, _+_, _*_, _-_, _≤_, zero-le}
 use native.Mathlib.Omega.{arith}
 use native.Mathlib.Numerals.{add-one}
 use mathlib.Core.Path.{_≡_, refl, ap, _∙_}
@@ -11,18 +11,19 @@ use mir.Val.{toZ, ofZ}
 use Rattle.text_put.specs.Put.{Put}
 use Rattle.text_put.proofs.PutLaws.{put-none, put-then}
 use Rattle.watch_text.specs.Shown.{rowsPast}
+use Rattle.watch_text.proofs.Sizes.{past-short}
 use Rattle.watch_text.proofs.put_reports.Statement.{statement}
 use Rattle.watch_text.proofs.put_reports.Tie as tie
 
 abbrev Inv-loop : tie.InvT-loop
-Inv-loop text₀ at ticks count scores lengths n₀ i₀ text n i = (i ≤ count) × Put text₀ text at n (rowsPast ticks scores lengths i)
+Inv-loop text₀ at ticks count scores lengths n₀ i₀ text n i = (i ≤ count) × Put text₀ text at n (rowsPast ticks scores lengths i) × (length (rowsPast ticks scores lengths i) ≤ 64 * i)
 
 abbrev μ-loop : tie.MeasureT-loop
 μ-loop text₀ at ticks count scores lengths n₀ i₀ text n i = count - i
 
 loop-holds : tie.Need-loop-holds Inv-loop μ-loop
 unfolding rowsPast
-loop-holds c = (zero-le, put-none _ _)
+loop-holds c = (zero-le, put-none _ _, omega arith)
 
 cast-k : tie.Need-cast-k Inv-loop μ-loop
 cast-k c = omega arith
@@ -64,7 +65,8 @@ loop-again c =
     let st = c .before .before .before .before .before .before .before .before .before .before in
     let s = getD (st .args .scores .now) (l .i) (pos 0) in
     let back : toZ w64 (ofZ w64 s) ≡ s = search needs in
-    (omega arith, rw (add-one (l .i)) (put-then (l .inv .1) (rw back at (c .before .before .put-report .ensures))))
+    let o = rw back at (c .before .before .put-report .ensures) in
+    (omega arith, rw (add-one (l .i)) (put-then (l .inv .1) (o .0)), rw (add-one (l .i)) (past-short (st .args .ticks) (st .args .scores .now) (st .args .lengths .now) (l .i) (l .inv .2) (o .1)))
 
 same-length : tie.Need-same-length Inv-loop μ-loop
 same-length c = c .before .loop .inv .1 .long
@@ -74,7 +76,7 @@ returns c =
     let l = c .before .loop in
     let a = c .before .before .before .before .args in
     let e : l .i ≡ a .count = omega arith in
-    rw (← e) (l .inv .1)
+    rw (← e) (l .inv .1, l .inv .2)
 
 pub put-reports-spec : {M : Type 1} → statement M
 put-reports-spec =
