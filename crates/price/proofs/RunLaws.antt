@@ -3,7 +3,7 @@ use Prim.Native.Nat.{ℕ, zero, suc, _+_, _-_, _*_, _≤_, _<_}
 use native.Mathlib.Nat.{add-zero}
 use native.Mathlib.Omega.{arith}
 use mathlib.Core.Path.{_≡_, refl, sym, ap, _∙_}
-use mathlib.Core.List.{List, [], _∷_, map, zipWith}
+use mathlib.Core.List.{List, [], _∷_, _++_, map, zipWith}
 use mathlib.Core.Option.{Option, none, some}
 use mathlib.Core.Bool.{Bool, true, false, cond, _&&_}
 use borrow.Author.Tests.{le-leb, lt-leb, lt-ltb, le-ltb, leb-true, leb-false, ltb-true, eqb-true}
@@ -155,13 +155,15 @@ steps-none (a ∷ es) [] i e h = absurd (omega arith)
 steps-none (a ∷ es) (b ∷ ss) zero e h = absurd (omega arith)
 steps-none (a ∷ es) (b ∷ ss) (suc i) e h = steps-none es ss i (omega arith) (omega arith)
 
--- the steps from a place of the lists on
-pub steps-rest : (es ss : List ℕ) (i : ℕ) → length es ≡ length ss → stepsOf (drop i es) (drop i ss) ≡ drop i (stepsOf es ss)
+-- the lists cut in two
+pub steps-cut : (n : ℕ) (es ss : List ℕ) → length es ≡ length ss
+    → stepsOf (take n es) (take n ss) ++ stepsOf (drop n es) (drop n ss) ≡ stepsOf es ss
 unfolding stepsOf zipWith
-steps-rest es ss zero e = refl
-steps-rest [] ss (suc i) e = refl
-steps-rest (a ∷ es) [] (suc i) e = absurd (omega arith)
-steps-rest (a ∷ es) (b ∷ ss) (suc i) e = steps-rest es ss i (omega arith)
+steps-cut zero es ss e = refl
+steps-cut (suc n) [] [] e = refl
+steps-cut (suc n) [] (b ∷ ss) e = absurd (omega arith)
+steps-cut (suc n) (a ∷ es) [] e = absurd (omega arith)
+steps-cut (suc n) (a ∷ es) (b ∷ ss) e = ap (_∷_ (record { edge = a; stay = b })) (steps-cut n es ss (omega arith))
 
 -- ---- what the steps come to is the run's price
 

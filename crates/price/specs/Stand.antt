@@ -1,7 +1,7 @@
 -- How the code goes through a run, step by step. No promise of a public operation speaks of this.
 use Prim.Native.Nat.{ℕ, _+_, _*_, _^_, _≤_, _<_}
 use mathlib.Core.Path.{_≡_}
-use mathlib.Core.List.{List, [], _∷_, map}
+use mathlib.Core.List.{List, [], _∷_, _++_, map}
 use mathlib.Core.Option.{Option, none, some}
 use mathlib.Core.Bool.{Bool, true, cond, _&&_}
 use lib.Dec.{eqb, leb}
@@ -93,6 +93,11 @@ pub record Able (p : Pattern) (s : Stand) (x : Step) : Type 0 where
 pub record Stepped (p : Pattern) (durations : List ℕ) (values : List ℤ) (s : Stand) (x : Step) (r : Stand) : Type 0 where
   pub held : Held p durations values r
   pub same : (xs : List Step) → outcome p durations values r xs ≡ outcome p durations values s (x ∷ xs)
+
+-- The same by many steps.
+pub record Ran (p : Pattern) (durations : List ℕ) (values : List ℤ) (s : Stand) (xs : List Step) (r : Stand) : Type 0 where
+  pub held : Held p durations values r
+  pub same : (ys : List Step) → outcome p durations values r ys ≡ outcome p durations values s (xs ++ ys)
 
 -- Nothing is refused with 7, 8 or 9.
 pub record Fit (p : Pattern) (durations : List ℕ) (values : List ℤ) (begin : ℕ) (edges stays : List ℕ) : Type 0 where

@@ -7,10 +7,7 @@ use super::stays::stay_in;
 use pattern::Edge;
 use pattern::Kind;
 use pattern::Pattern;
-use pattern::Place;
 use pattern::Refusal;
-use pattern::Sign;
-use pattern::Test;
 use pattern::clocks::after_resets;
 use pattern::clocks::guards_hold;
 use pattern::is_end;
@@ -18,7 +15,6 @@ use pattern::is_start;
 use record::rules::ticks;
 use weighting::unit;
 ghost use mathlib.Core.Path.{_≡_};
-ghost use mathlib.Core.List.{[]};
 ghost use Prim.Native.Nat.{_≤_, _<_};
 ghost use lib.ListN.{length};
 ghost use Rattle.pattern.specs.InUse.{placeAt, edgeAt};
@@ -27,7 +23,7 @@ ghost use Rattle.record.specs.Record.{total, bookOf};
 ghost use Rattle.record.specs.Run.{clocksAfter, stepsOf};
 ghost use Rattle.record.specs.Worth.{priceOf};
 ghost use Rattle.price.specs.Price.{scored};
-ghost use Rattle.price.specs.Stand.{Found, Room, canLeave, outcome, startOf, scoreAt, Held, Able, Stepped, Fit};
+ghost use Rattle.price.specs.Stand.{Found, Room, canLeave, outcome, startOf, scoreAt, Held, Able, Stepped, Ran, Fit};
 
 // The begin's piece, and the ticks of it that lie before the begin.
 pub fn find(durations: &[u32], begin: u32) -> Begin
@@ -59,32 +55,17 @@ pub fn left_by(p: Pattern, edge: u32) -> u8
     }
 }
 
-// A place; past the last slot a plain one without tests.
-pub fn place_at(p: Pattern, place: u8) -> Place
-    ensures { λ r. ⌜ r ≡ placeAt p place ⌝ }
-{
-    let k = place as usize;
-    if k < 16 {
-        p.places[k]
-    } else {
-        let t = Test {
-            sign: Sign::Less,
-            channel: 0,
-            bound: 0,
-        };
-        Place {
-            kind: Kind::Plain,
-            tests: [t; 4],
-            count: 0,
-        }
-    }
-}
-
+// A place's kind; plain past the last slot.
 pub fn kind_at(p: Pattern, place: u8) -> Kind
     ensures { λ r. ⌜ r ≡ placeAt p place .kind ⌝ }
 {
-    let l = place_at(p, place);
-    l.kind
+    let k = place as usize;
+    if k < 16 {
+        let l = p.places[k];
+        l.kind
+    } else {
+        Kind::Plain
+    }
 }
 
 // "every clock growing with it"
@@ -142,7 +123,8 @@ pub fn take_step(
 {
     let k = edge as usize;
     let e = p.edges[k];
-    let l = place_at(p, e.from);
+    let i = e.from as usize;
+    let l = p.places[i];
     let w = p.weighing;
     let walk = Walk {
         piece: s.piece,
@@ -205,9 +187,8 @@ pub fn run(
 ) -> Stand
     requires { ⌜ Held p (now durations) (now values) s ⌝ }
     requires { ⌜ length (now edges) ≡ length (now stays) ⌝ }
-    ensures { λ r. ⌜ outcome p (now (durations .entry)) (now (values .entry)) r []
-        ≡ outcome p (now (durations .entry)) (now (values .entry)) s
-        (stepsOf (now (edges .entry)) (now (stays .entry))) ⌝ }
+    ensures { λ r. ⌜ Ran p (now (durations .entry)) (now (values .entry)) s
+        (stepsOf (now (edges .entry)) (now (stays .entry))) r ⌝ }
 {
     let mut at = s;
     let mut i: usize = 0;
@@ -245,7 +226,7 @@ pub fn score_from(
     ensures { λ r. ⌜ r ≡ scored (outcome p (now (durations .entry)) (now (values .entry)) s
         (stepsOf (now (edges .entry)) (now (stays .entry)))) ⌝ }
 {
-    let first = step(p, durations, values, s, edges[0], stays[0]);
+    let first = run(p, durations, values, s, &edges[..1], &stays[..1]);
     let end = run(p, durations, values, first, &edges[1..], &stays[1..]);
     answer(p, end.going, end.place, end.worth)
 }

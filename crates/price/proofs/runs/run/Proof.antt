@@ -1,23 +1,24 @@
 -- `run` makes step after step: what will come of it all stays the same.
 use Prim.Native.Nat.{_+_}
 use native.Mathlib.Omega.{arith}
-use mathlib.Core.Path.{_≡_, refl, _∙_}
+use mathlib.Core.Path.{_≡_, refl, sym, ap, _∙_}
+use mathlib.Core.List.{List, _++_}
 use Prim.Native.Nat.{_-_, _≤_}
 use lib.ListN.{length, drop}
-use Rattle.record.specs.Run.{stepsOf}
+use Rattle.record.specs.Run.{Step, stepsOf}
 use Rattle.price.specs.Stand.{outcome, Held}
 use Rattle.price.proofs.RunLaws.{steps-at, steps-none}
 use Rattle.price.proofs.runs.run.Statement.{statement}
 use Rattle.price.proofs.runs.run.Tie as tie
 
 abbrev Inv-loop : tie.InvT-loop
-Inv-loop p durations values edges stays at₀ i₀ at i = (i ≤ length edges) × (Held p durations values at × (outcome p durations values at (drop i (stepsOf edges stays)) ≡ outcome p durations values at₀ (stepsOf edges stays)))
+Inv-loop p durations values edges stays at₀ i₀ at i = (i ≤ length edges) × (Held p durations values at × ((ys : List Step) → outcome p durations values at (drop i (stepsOf edges stays) ++ ys) ≡ outcome p durations values at₀ (stepsOf edges stays ++ ys)))
 
 abbrev μ-loop : tie.MeasureT-loop
 μ-loop p durations values edges stays at₀ i₀ at i = length edges - i
 
 loop-holds : tie.Need-loop-holds Inv-loop μ-loop
-loop-holds c = (omega arith, (c .before .before .before .pre .0, refl))
+loop-holds c = (omega arith, (c .before .before .before .pre .0, λ ys. refl))
 
 mul-step : tie.Need-mul-step Inv-loop μ-loop
 mul-step c = omega arith
@@ -47,14 +48,14 @@ loop-again c =
     let same = s .pre .1 in
     let es = s .args .edges .now in
     let ss = s .args .stays .now in
-    (omega arith, (c .step .ensures .held, c .step .ensures .same (drop (l .i + 1) (stepsOf es ss)) ∙ rw (← steps-at es ss (l .i) same (omega arith)) (l .inv .1 .1)))
+    (omega arith, (c .step .ensures .held, λ ys. c .step .ensures .same (drop (l .i + 1) (stepsOf es ss) ++ ys) ∙ ap (λ (xs : List Step). outcome (s .args .p) (s .args .durations .now) (s .args .values .now) (l .at) (xs ++ ys)) (sym (steps-at es ss (l .i) same (omega arith))) ∙ l .inv .1 .1 ys))
 
 returns : tie.Need-returns Inv-loop μ-loop
 returns c =
     let s = c .before .before .before .before .before in
     let l = c .before .loop in
     let none-left = steps-none (s .args .edges .now) (s .args .stays .now) (l .i) (s .pre .1) (omega (arith, c .loop-test .left)) in
-    rw none-left at (l .inv .1 .1)
+    record { held = l .inv .1 .0; same = λ ys. sym (ap (λ (xs : List Step). outcome (s .args .p) (s .args .durations .now) (s .args .values .now) (l .at) (xs ++ ys)) none-left) ∙ l .inv .1 .1 ys }
 
 pub run-spec : {M : Type 1} → statement M
 run-spec =

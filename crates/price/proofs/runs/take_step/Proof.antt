@@ -5,11 +5,12 @@ use Rattle.integers.proofs.Ranges.{abs-fits-64}
 use Rattle.integers.proofs.Casts.{read-back}
 use mir.Val.{toZ, ofZ}
 use mir.Syntax.{w64}
-use Prim.Native.Nat.{_≤_, _<_, _^_}
+use Prim.Native.Nat.{ℕ, _≤_, _<_, _^_}
 use Rattle.record.proofs.ListLaws.{getD-any}
 use Rattle.pattern.proofs.SoundLaws.{parts}
-use Rattle.pattern.specs.InUse.{edgeAt}
-use Rattle.pattern.specs.Sound.{noEdge}
+use Rattle.pattern.specs.InUse.{edgeAt, placeAt}
+use Rattle.pattern.specs.Sound.{noEdge, noPlace}
+use Rattle.pattern.specs.declared.Place.{Place}
 use Rattle.pattern.specs.declared.Edge.{Edge}
 use lib.ListN.{getD}
 use native.Mathlib.Omega.{arith}
@@ -27,6 +28,17 @@ known s = can-parts (s .args .t1) (s .args .s .place) (s .args .s .clocks) (reco
 in-array : (s : tie.Start) → s .args .edge < 32
 in-array s = edge-at-sound (s .args .t1) (s .args .edge) (s .pre .0 .sound) (known s) .0
 
+-- the places that it leaves and enters, which the pattern has
+ends : (s : tie.Start) → (edgeAt (s .args .t1) (s .args .edge) .from < s .args .t1 .placecount) × (edgeAt (s .args .t1) (s .args .edge) .to < s .args .t1 .placecount)
+ends s = edge-at-sound (s .args .t1) (s .args .edge) (s .pre .0 .sound) (known s) .1
+
+place-is : (s : tie.Start) (k : ℕ) (d : Place) → k < s .args .t1 .placecount → getD (s .args .t1 .places) k d ≡ placeAt (s .args .t1) k
+place-is s k d h =
+    let g = parts (s .args .t1) (s .pre .0 .sound) .places in
+    let few = g .few in
+    let long = g .long in
+    getD-any (s .args .t1 .places) k d noPlace (omega arith)
+
 mul-e : tie.Need-mul-e
 mul-e c = search needs
 
@@ -37,8 +49,17 @@ edge-is s d = let e = parts (s .args .t1) (s .pre .0 .sound) .edges .long in get
 element-copy-out-e : tie.Need-element-copy-out-e
 element-copy-out-e c = in-array (c .before)
 
-place-at-requires : tie.Need-place-at-requires
-place-at-requires c κs = search needs
+cast-i : tie.Need-cast-i
+cast-i c = search needs
+
+mul-l : tie.Need-mul-l
+mul-l c = search needs
+
+element-copy-out-l : tie.Need-element-copy-out-l
+element-copy-out-l c =
+    let s = c .before .before .before in
+    let few = parts (s .args .t1) (s .pre .0 .sound) .places .few in
+    rw (edge-is s _) (omega (arith, ends s .0, ends s .1))
 
 cast-stay-in : tie.Need-cast-stay-in
 cast-stay-in c = search needs
@@ -51,22 +72,19 @@ reads-worth s =
 
 stay-in-requires : tie.Need-stay-in-requires
 stay-in-requires c κs =
-    let s = c .before .before .before .before in
-    let l = c .before .place-at in
-    let ends = edge-at-sound (s .args .t1) (s .args .edge) (s .pre .0 .sound) (known s) .1 in
-    rw (reads-worth s)
-    (walks (s .args .t1) (s .args .durations .now) (s .args .values .now) (s .args .s) (s .pre .0) (l .result) _ (s .args .stay) (rw (edge-is s _) at (l .ensures)) (omega (arith, ends .0, ends .1)) (s .pre .1 .0 .fits))
+    let s = c .before .before .before .before .before in
+    rw (edge-is s _, reads-worth s)
+    (walks (s .args .t1) (s .args .durations .now) (s .args .values .now) (s .args .s) (s .pre .0) _ _ (s .args .stay) (place-is s _ _ (omega (arith, ends s .0, ends s .1))) (omega (arith, ends s .0, ends s .1)) (s .pre .1 .0 .fits))
 
-sub-t21 : tie.Need-sub-t21
-sub-t21 c = search needs
+sub-t24 : tie.Need-sub-t24
+sub-t24 c = search needs
 
 returns : tie.Need-returns
 returns c =
-    let s = c .before .before .before .before .before .before .before in
+    let s = c .before .before .before .before .before .before .before .before in
     let there = c .before .before .stay-in in
-    let l = c .before .before .before .before .place-at in
     let x : Step = record { edge = s .args .edge; stay = s .args .stay } in
-    let stayed = rw (l .ensures, edge-is s _, reads-worth s) at (there .ensures) in
+    let stayed = rw (edge-is s _, place-is s (edgeAt (s .args .t1) (s .args .edge) .from) _ (ends s .0), reads-worth s) at (there .ensures) in
     let small : natAbs (there .result .worth) ≤ 2 ^ 60 = let h = s .pre .0 .size in let f = s .pre .1 .0 .fits in omega (arith, stayed .size) in
     rw (read-back w64 (there .result .worth) (abs-fits-64 (there .result .worth) (2 ^ 60) small (omega arith)), s .pre .1 .1, edge-is s _)
     (made (s .args .t1) (s .args .durations .now) (s .args .values .now) (s .args .s) (s .pre .0) x (there .result) (s .pre .1 .0) stayed)
@@ -77,8 +95,10 @@ take-step-spec =
     (tie.spec
     mul-e
     element-copy-out-e
-    place-at-requires
+    cast-i
+    mul-l
+    element-copy-out-l
     cast-stay-in
     stay-in-requires
-    sub-t21
+    sub-t24
     returns)
