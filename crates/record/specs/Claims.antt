@@ -51,7 +51,7 @@ MarginIsLeastDistance =
     (p : Pattern) (b : Book) (begin : ℕ) (xs : List Step) (w : ℤ) → p .weighing ≡ Margin
     → priceOf p b begin xs ≡ some w → w ≡ combineAll margin (distancesIn p b begin xs)
 
--- Two patterns whose runs are the same: they differ at most in the tests of their places.
+-- Two patterns whose runs are the same: of what a price goes by, they differ at most in the tests of their places.
 pub record SameRuns (p q : Pattern) : Type 0 where
   pub weighing : q .weighing ≡ p .weighing
   pub edgecount : q .edgecount ≡ p .edgecount
