@@ -12,7 +12,7 @@ use Rattle.pattern_text.specs.Numeral.{isDigit, front, after, valueFrom, plain,
 use Rattle.pattern_text.proofs.Tools.{by-test}
 use Rattle.pattern_text.proofs.NumeralLaws.{is-digit, front-after}
 use Rattle.pattern_text.proofs.ForCode.{value-held}
-use Rattle.text_scan.specs.Scan.{endOf, digitOf, cap, heldDigit, digitsIn}
+use Rattle.text_scan.specs.Scan.{endOf, digitOf, heldDigit, digitsIn}
 use Rattle.text_scan.proofs.Position.{end-drop, drop-next}
 
 -- ---- the digit at a position
@@ -65,19 +65,19 @@ none-after (c ∷ b) h = by-test (isDigit c)
 
 -- ---- one digit more, and no more digits
 
-pub digits-next : (t : Bytes) (v n : ℕ) → digitOf (drop n t) < 10 → digitsIn t v (drop n t) ≡ digitsIn t (heldDigit v (digitOf (drop n t))) (drop (n + 1) t)
+pub digits-next : (most : ℕ) (t : Bytes) (v n : ℕ) → digitOf (drop n t) < 10 → digitsIn most t v (drop n t) ≡ digitsIn most t (heldDigit most v (digitOf (drop n t))) (drop (n + 1) t)
 unfolding front after valueFrom
-digits-next t v n h =
+digits-next most t v n h =
     let s = begins t n h in
     let c = getD t n 0 in
     let r = drop (n + 1) t in
-    rw (s .value, s .is, s .digit) (λ i. record { value = sym (value-held cap (v * 10 + (c - 48)) (front r)) i; next = endOf t (after r) })
+    rw (s .value, s .is, s .digit) (λ i. record { value = sym (value-held most (v * 10 + (c - 48)) (front r)) i; next = endOf t (after r) })
 
-pub digits-end : (t : Bytes) (v n : ℕ) → 10 ≤ digitOf (drop n t) → v ≤ cap → n ≤ length t → digitsIn t v (drop n t) ≡ record { value = v; next = n }
+pub digits-end : (most : ℕ) (t : Bytes) (v n : ℕ) → 10 ≤ digitOf (drop n t) → v ≤ most → n ≤ length t → digitsIn most t v (drop n t) ≡ record { value = v; next = n }
 unfolding valueFrom
-digits-end t v n h k l = rw (none-front (drop n t) h, none-after (drop n t) h) (λ i. record { value = held i; next = end-drop t n l i })
+digits-end most t v n h k l = rw (none-front (drop n t) h, none-after (drop n t) h) (λ i. record { value = held i; next = end-drop t n l i })
   where
-    held : min cap v ≡ v
+    held : min most v ≡ v
     held = omega arith
 
 -- ---- a number is digits without a leading zero
@@ -91,21 +91,21 @@ unfolding numeralOf plain
 number-none b h = rw (none-front b h)
 
 -- the digits after a first one are none exactly if they end where they begin
-none-more : (t : Bytes) (n v : ℕ) → n ≤ length t → front (drop n t) ≡ [] → digitsIn t v (drop n t) .next ≡ n
-none-more t n v l e =
+none-more : (most : ℕ) (t : Bytes) (n v : ℕ) → n ≤ length t → front (drop n t) ≡ [] → digitsIn most t v (drop n t) .next ≡ n
+none-more most t n v l e =
     let k : drop n t ≡ after (drop n t) = front-after (drop n t) ∙ ap (λ (x : Bytes). x ++ after (drop n t)) e in
     rw (← k) (end-drop t n l)
 
-some-more : (t : Bytes) (n v d : ℕ) (ds : Bytes) → n < length t → front (drop n t) ≡ d ∷ ds → n < digitsIn t v (drop n t) .next
-some-more t n v d ds l e =
+some-more : (most : ℕ) (t : Bytes) (n v d : ℕ) (ds : Bytes) → n < length t → front (drop n t) ≡ d ∷ ds → n < digitsIn most t v (drop n t) .next
+some-more most t n v d ds l e =
     let k : length (drop n t) ≡ suc (length ds) + length (after (drop n t)) =
     ap length (front-after (drop n t)) ∙ length-append (front (drop n t)) (after (drop n t)) ∙ ap (λ (x : Bytes). length x + length (after (drop n t))) e in
     omega (arith, k, length-drop n t)
 
 -- a leading zero
-pub number-zero : (t : Bytes) (n : ℕ) → digitOf (drop n t) ≡ 0 → n + 1 < digitsIn t 0 (drop (n + 1) t) .next → numeralOf (drop n t) ≡ broken
+pub number-zero : (most : ℕ) (t : Bytes) (n : ℕ) → digitOf (drop n t) ≡ 0 → n + 1 < digitsIn most t 0 (drop (n + 1) t) .next → numeralOf (drop n t) ≡ broken
 unfolding numeralOf front plain
-number-zero t n z h =
+number-zero most t n z h =
     let s = begins t n (omega arith) in
     let l = digit-within t n (omega arith) in
     let c = is-digit (getD t n 0) (s .digit) in
@@ -113,14 +113,14 @@ number-zero t n z h =
     rw (s .is, s .digit) (go (front (drop (n + 1) t)) refl e)
   where
     go : (ds : Bytes) → front (drop (n + 1) t) ≡ ds → getD t n 0 ≡ 48 → cond (plain (getD t n 0 ∷ ds)) (got (valueFrom 0 (getD t n 0 ∷ ds)) (after (getD t n 0 ∷ drop (n + 1) t))) broken ≡ broken
-    go [] f e = let k = none-more t (n + 1) 0 (omega (arith, digit-within t n (omega arith))) f in absurd (omega arith)
+    go [] f e = let k = none-more most t (n + 1) 0 (omega (arith, digit-within t n (omega arith))) f in absurd (omega arith)
     go (d ∷ ds) f e = rw (eq-eqb (getD t n 0) 48 e) refl
 
 -- no leading zero
-pub number-is : (t : Bytes) (n : ℕ) → digitOf (drop n t) < 10 → (digitOf (drop n t) ≡ 0 → digitsIn t 0 (drop (n + 1) t) .next ≤ n + 1)
+pub number-is : (most : ℕ) (t : Bytes) (n : ℕ) → digitOf (drop n t) < 10 → (digitOf (drop n t) ≡ 0 → digitsIn most t 0 (drop (n + 1) t) .next ≤ n + 1)
     → numeralOf (drop n t) ≡ got (valueFrom (digitOf (drop n t)) (front (drop (n + 1) t))) (after (drop (n + 1) t))
 unfolding numeralOf front after valueFrom plain
-number-is t n h z =
+number-is most t n h z =
     let s = begins t n h in
     let l = digit-within t n h in
     rw (s .value) (rw (s .is, s .digit) (go (front (drop (n + 1) t)) refl))
@@ -136,7 +136,7 @@ number-is t n h z =
     go (d ∷ ds) f = by-test (eqb (getD t n 0) 48)
         (λ e. let k = z (first (eqb-true (getD t n 0) 48 e)) in
         let i = digit-within t n h in
-        let m = some-more t (n + 1) 0 d ds (long f) f in absurd (omega arith))
+        let m = some-more most t (n + 1) 0 d ds (long f) f in absurd (omega arith))
         (λ e. rw e (same (d ∷ ds)))
       where
         long : front (drop (n + 1) t) ≡ d ∷ ds → n + 1 < length t

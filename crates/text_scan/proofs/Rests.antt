@@ -13,7 +13,7 @@ use Rattle.pattern_text.proofs.NumeralLaws.{numeral}
 use Rattle.text_scan.specs.declared.Found as found
 use Rattle.text_scan.specs.declared.Number as number
 use Rattle.text_scan.specs.declared.Integer as whole
-use Rattle.text_scan.specs.Scan.{endOf, placed, wordAt, cap, numberIn, numberAt, numberThen, numberThenAt, held, integerAt}
+use Rattle.text_scan.specs.Scan.{endOf, placed, wordAt, heldNumberAt, cap, numberIn, numberAt, numberThen, numberThenAt, held, integerAt}
 use Rattle.text_scan.proofs.Position.{rest-at}
 
 -- what is left when something was read is the rest at a position
@@ -84,13 +84,22 @@ numbered t x v n h e = met number-apart (min cap) t x h v n e
 pub no-number : (t : Bytes) (x : Reading ℕ) → number.the-variants.Broken ≡ numberIn t x → x ≡ broken
 no-number t x e = unmet number-apart (min cap) t x e
 
+module _ (most : ℕ) (t : Bytes) (at : ℕ) where
+  pub held-number-found : (v n : ℕ) → number.the-variants.Value v n ≡ heldNumberAt most t at → Met (min most) t (numeralOf (drop at t)) v n
+  unfolding heldNumberAt
+  held-number-found v n e = met number-apart (min most) t (numeralOf (drop at t)) (rests-number t at) v n e
+
+  pub held-number-missing : number.the-variants.Broken ≡ heldNumberAt most t at → numeralOf (drop at t) ≡ broken
+  unfolding heldNumberAt
+  held-number-missing e = unmet number-apart (min most) t (numeralOf (drop at t)) e
+
 pub number-found : (t : Bytes) (at v n : ℕ) → number.the-variants.Value v n ≡ numberAt t at → Met (min cap) t (numeralOf (drop at t)) v n
-unfolding numberAt
-number-found t at v n e = numbered t (numeralOf (drop at t)) v n (rests-number t at) e
+unfolding numberAt heldNumberAt
+number-found t at v n e = held-number-found cap t at v n e
 
 pub number-missing : (t : Bytes) (at : ℕ) → number.the-variants.Broken ≡ numberAt t at → numeralOf (drop at t) ≡ broken
-unfolding numberAt
-number-missing t at e = no-number t (numeralOf (drop at t)) e
+unfolding numberAt heldNumberAt
+number-missing t at e = held-number-missing cap t at e
 
 pub then-found : (w t : Bytes) (at v n : ℕ) → number.the-variants.Value v n ≡ numberThenAt w t at → Met (min cap) t (numberThen w (drop at t)) v n
 unfolding numberThenAt

@@ -1,5 +1,5 @@
 -- What reading at a position of a text finds: what the definitions read from there on, with the position of the rest, and
--- with numbers held at a cap that no range reaches.
+-- with numbers held at a limit above their range.
 use Prim.Native.Nat.{ℕ, _+_, _-_, _*_, min}
 use mathlib.Core.List.{[], _∷_}
 use mathlib.Core.Bool.{cond}
@@ -39,24 +39,30 @@ digitOf (c ∷ b) = cond (isDigit c) (c - 48) 10
 unfoldable pub digitAt : Bytes → ℕ → ℕ
 digitAt t at = digitOf (drop at t)
 
--- above every number that has a range or an index
+-- one digit more, held at a limit
+abbrev pub heldDigit : (most v d : ℕ) → ℕ
+heldDigit most v d = min most (v * 10 + d)
+
+-- the value of v followed by the digits at the front
+abbrev pub digitsIn : (most : ℕ) → Bytes → ℕ → Bytes → Digits
+digitsIn most t v b = record { value = min most (valueFrom v (front b)); next = endOf t (after b) }
+
+unfoldable pub digitsAt : (most : ℕ) → Bytes → ℕ → ℕ → Digits
+digitsAt most t v at = digitsIn most t v (drop at t)
+
+-- a number, "`0` or digits without a leading zero", held
+abbrev pub heldNumberIn : (most : ℕ) → Bytes → Reading ℕ → number.Number
+heldNumberIn most = placed (λ n. number.the-variants.Value (min most n)) number.the-variants.Broken
+
+unfoldable pub heldNumberAt : (most : ℕ) → Bytes → ℕ → number.Number
+heldNumberAt most t at = heldNumberIn most t (numeralOf (drop at t))
+
+-- above every number of a pattern text that has a range or an index
 abbrev pub cap : ℕ
 cap = 1_000_001
 
--- one digit more
-abbrev pub heldDigit : ℕ → ℕ → ℕ
-heldDigit v d = min cap (v * 10 + d)
-
--- the value of v followed by the digits at the front
-abbrev pub digitsIn : Bytes → ℕ → Bytes → Digits
-digitsIn t v b = record { value = min cap (valueFrom v (front b)); next = endOf t (after b) }
-
-unfoldable pub digitsAt : Bytes → ℕ → ℕ → Digits
-digitsAt t v at = digitsIn t v (drop at t)
-
--- a number, "`0` or digits without a leading zero", held
 abbrev pub numberIn : Bytes → Reading ℕ → number.Number
-numberIn = placed (λ n. number.the-variants.Value (min cap n)) number.the-variants.Broken
+numberIn = heldNumberIn cap
 
 unfoldable pub numberAt : Bytes → ℕ → number.Number
 numberAt t at = numberIn t (numeralOf (drop at t))

@@ -3,11 +3,11 @@ ghost use mathlib.Core.Path.{_≡_};
 ghost use Prim.Native.Nat.{_≤_, _<_};
 ghost use lib.ListN.{length};
 ghost use Rattle.text_scan.specs.Scan.{
-  cap,
   wordAt,
   digitAt,
   heldDigit,
   digitsAt,
+  heldNumberAt,
   numberAt,
   numberThenAt,
   integerAt,
@@ -20,13 +20,13 @@ pub enum Found {
     At(usize),
 }
 
-// A number's value, held at 1,000,001, and where it ends.
+// A number's value, held at a limit, and where it ends.
 pub enum Number {
     Broken,
     Value(u32, usize),
 }
 
-// The same with a minus, held at -1,000,001 too.
+// The same with a minus, held at 1,000,001 and -1,000,001.
 pub enum Integer {
     Broken,
     Value(i32, usize),
@@ -71,42 +71,43 @@ fn digit_at(text: &[u8], at: usize) -> u32
     if b < 58 { (b - 48) as u32 } else { 10 }
 }
 
-// One digit more, held at the cap.
-fn held_digit(value: u32, digit: u32) -> u32
-    requires { ⌜ (value ≤ cap) × (digit < 10) ⌝ }
-    ensures { λ r. ⌜ r ≡ heldDigit value digit ⌝ }
+// One digit more, held at `most`. Any limit of 32 bits leaves room in 64.
+fn held_digit(value: u32, digit: u32, most: u32) -> u32
+    requires { ⌜ (value ≤ most) × (digit < 10) ⌝ }
+    ensures { λ r. ⌜ r ≡ heldDigit most value digit ⌝ }
 {
-    let v = value * 10 + digit;
-    if v < 1_000_001 { v } else { 1_000_001 }
+    let v = (value as u64) * 10 + (digit as u64);
+    let limit = most as u64;
+    if v < limit { v as u32 } else { most }
 }
 
 // All the digits at a position, after those that gave `value`.
-fn digits_at(text: &[u8], at: usize, value: u32) -> Digits
-    requires { ⌜ (at ≤ length (now text)) × (value ≤ cap) ⌝ }
-    ensures { λ r. ⌜ r ≡ digitsAt (now (text .entry)) value at ⌝ }
+fn digits_at(text: &[u8], at: usize, value: u32, most: u32) -> Digits
+    requires { ⌜ (at ≤ length (now text)) × (value ≤ most) ⌝ }
+    ensures { λ r. ⌜ r ≡ digitsAt most (now (text .entry)) value at ⌝ }
 {
     let mut sum = value;
     let mut next = at;
     let mut digit = digit_at(text, next);
     while digit < 10 {
-        sum = held_digit(sum, digit);
+        sum = held_digit(sum, digit, most);
         next += 1;
         digit = digit_at(text, next);
     }
     Digits { value: sum, next }
 }
 
-// A number is `0` or digits without a leading zero; it has as many digits as stand there.
-pub fn number_at(text: &[u8], at: usize) -> Number
-    requires { ⌜ at ≤ length (now text) ⌝ }
-    ensures { λ r. ⌜ r ≡ numberAt (now (text .entry)) at ⌝ }
+// A number is `0` or digits without a leading zero; it has as many digits as stand there. Held at `most`.
+pub fn held_number_at(text: &[u8], at: usize, most: u32) -> Number
+    requires { ⌜ (at ≤ length (now text)) × (9 ≤ most) ⌝ }
+    ensures { λ r. ⌜ r ≡ heldNumberAt most (now (text .entry)) at ⌝ }
 {
     let first = digit_at(text, at);
     if 10 <= first {
         return Number::Broken;
     }
     let start = at + 1;
-    let digits = digits_at(text, start, first);
+    let digits = digits_at(text, start, first, most);
     let value = digits.value;
     let next = digits.next;
     if first == 0 {
@@ -115,6 +116,14 @@ pub fn number_at(text: &[u8], at: usize) -> Number
         }
     }
     Number::Value(value, next)
+}
+
+// A number of a pattern text, held at 1,000,001.
+pub fn number_at(text: &[u8], at: usize) -> Number
+    requires { ⌜ at ≤ length (now text) ⌝ }
+    ensures { λ r. ⌜ r ≡ numberAt (now (text .entry)) at ⌝ }
+{
+    held_number_at(text, at, 1_000_001)
 }
 
 // A number, and then a word.
