@@ -3,16 +3,16 @@
 use Prim.Native.Nat.{_+_, _<_}
 use native.Mathlib.Omega.{arith}
 use mathlib.Core.Path.{_≡_, refl, sym, ap, _∙_}
-use mathlib.Core.List.{[], _∷_, _++_, append-assoc}
+use mathlib.Core.List.{[], _∷_, _++_}
 use mathlib.Core.Option.{Option, none, some}
 use lib.ListN.{length, length-append}
 use Rattle.pattern.specs.declared.Refusal.the-variants.{BrokenForm}
 use Rattle.pattern_text.specs.Bytes.{Bytes, bytes, got}
-use Rattle.pattern_text.specs.Form.{Form, giving, strip, _◂_}
+use Rattle.pattern_text.specs.Form.{Form, _◂_}
 use Rattle.pattern_text.specs.Line.{Raw, renderLine, lineOf}
 use Rattle.pattern_text.specs.Fault.{Doc, stepOf, stop}
 use Rattle.pattern_text.specs.Text.{refused, Lines, line, rest, linesOf, finish, meant, onward, readLines}
-use Rattle.pattern_text.proofs.FormLaws.{Exact, Any, inv, giving-inv, strip-sound, strip-complete}
+use Rattle.pattern_text.proofs.FormLaws.{Exact, Any, ◂-faithful}
 use Rattle.pattern_text.proofs.LineLaws.{form}
 use Rattle.pattern_text.proofs.Cut.{first-line, joined, joined-lines}
 
@@ -21,12 +21,11 @@ use Rattle.pattern_text.proofs.Cut.{first-line, joined, joined-lines}
 module _ {A : Type 0} {f : Form A} (x : Exact f Any) where
   pub ended-sound : (b : Bytes) (a : A) (r : Bytes) → (f ◂ "\n") .read b ≡ got a r → b ≡ (f .write a ++ bytes "\n") ++ r
   unfolding _◂_
-  ended-sound b a r e = inv (f .read b) (λ a r. giving (λ _. a) (strip (bytes "\n") r)) a r e (λ c s p q. giving-inv (λ _. c) (strip (bytes "\n") s) a r q (λ u k v.
-      x .sound b c s p ∙ rw (strip-sound (bytes "\n") s r u k, v) (sym (append-assoc (f .write a) (bytes "\n") r))))
+  ended-sound = ◂-faithful "\n" x (λ r. tt) .sound
 
   pub ended-complete : (a : A) (r : Bytes) → (f ◂ "\n") .read ((f .write a ++ bytes "\n") ++ r) ≡ got a r
   unfolding _◂_
-  ended-complete a r = rw (append-assoc (f .write a) (bytes "\n") r, x .complete a (bytes "\n" ++ r) tt, strip-complete (bytes "\n") r) refl
+  ended-complete a r = ◂-faithful "\n" x (λ r. tt) .complete a r tt
 
   pub ended-shorter : (b : Bytes) (a : A) (r : Bytes) → (f ◂ "\n") .read b ≡ got a r → length r < length b
   ended-shorter b a r e = omega (arith, ap length (ended-sound b a r e), length-append (f .write a ++ bytes "\n") r, length-append (f .write a) (bytes "\n"))

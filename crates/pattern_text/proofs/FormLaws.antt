@@ -24,6 +24,14 @@ pub record Exact {A : Type 0} (f : Form A) (Follow : Bytes → Type 0) : Type 0 
   pub complete : (a : A) (r : Bytes) → Follow r → f .read (f .write a ++ r) ≡ got a r
   pub flat : (a : A) → Flat (f .write a)
 
+-- the same of a form that may write line feeds
+pub record Faithful {A : Type 0} (f : Form A) (Follow : Bytes → Type 0) : Type 0 where
+  pub sound : (b : Bytes) (a : A) (r : Bytes) → f .read b ≡ got a r → b ≡ f .write a ++ r
+  pub complete : (a : A) (r : Bytes) → Follow r → f .read (f .write a ++ r) ≡ got a r
+
+abbrev pub faithful : {A : Type 0} {f : Form A} {F : Bytes → Type 0} → Exact f F → Faithful f F
+faithful x = record { sound = x .sound; complete = x .complete }
+
 abbrev pub Any : Bytes → Type 0
 Any r = Unit
 
@@ -65,14 +73,26 @@ unfolding _▸_
   flat = λ a. all-append noFeed (bytes w) (f .write a) flat (x .flat a);
 }
 
-pub ◂-exact : {A : Type 0} {f : Form A} {F : Bytes → Type 0} (w : String) → Flat (bytes w) → Exact f F → ((r : Bytes) → F (bytes w ++ r)) → Exact (f ◂ w) Any
-unfolding _◂_
-◂-exact {f = f} w flat x k = record {
-  sound = λ b a r e. inv (f .read b) (λ a r. giving (λ _. a) (strip (bytes w) r)) a r e (λ c s p q. giving-inv (λ _. c) (strip (bytes w) s) a r q (λ u t v.
-      x .sound b c s p ∙ rw (strip-sound (bytes w) s r u t, v) (sym (append-assoc (f .write a) (bytes w) r))));
-  complete = λ a r _. rw (append-assoc (f .write a) (bytes w) r, x .complete a (bytes w ++ r) (k r), strip-complete (bytes w) r) refl;
-  flat = λ a. all-append noFeed (f .write a) (bytes w) (x .flat a) flat;
-}
+module _ {A : Type 0} {f : Form A} {F : Bytes → Type 0} (w : String) (x : Exact f F) where
+  ◂-sound : (b : Bytes) (a : A) (r : Bytes) → (f ◂ w) .read b ≡ got a r → b ≡ (f ◂ w) .write a ++ r
+  unfolding _◂_
+  ◂-sound b a r e = inv (f .read b) (λ a r. giving (λ _. a) (strip (bytes w) r)) a r e (λ c s p q. giving-inv (λ _. c) (strip (bytes w) s) a r q (λ u t v.
+      x .sound b c s p ∙ rw (strip-sound (bytes w) s r u t, v) (sym (append-assoc (f .write a) (bytes w) r))))
+
+  pub ◂-faithful : ((r : Bytes) → F (bytes w ++ r)) → Faithful (f ◂ w) Any
+  unfolding _◂_
+  ◂-faithful k = record {
+    sound = ◂-sound;
+    complete = λ a r _. rw (append-assoc (f .write a) (bytes w) r, x .complete a (bytes w ++ r) (k r), strip-complete (bytes w) r) refl;
+  }
+
+  pub ◂-exact : Flat (bytes w) → ((r : Bytes) → F (bytes w ++ r)) → Exact (f ◂ w) Any
+  unfolding _◂_
+  ◂-exact flat k = record {
+    sound = ◂-sound;
+    complete = ◂-faithful k .complete;
+    flat = λ a. all-append noFeed (f .write a) (bytes w) (x .flat a) flat;
+  }
 
 pub ⨾-exact : {A B : Type 0} {f : Form A} {g : Form B} {F G : Bytes → Type 0} → Exact f F → Exact g G → ((b : B) (r : Bytes) → G r → F (g .write b ++ r)) → Exact (f ⨾ g) G
 unfolding _⨾_
@@ -103,7 +123,7 @@ pub oneOf-exact : {A : Type 0} (word : A → String) (l : List A) → ((a : A) (
 unfolding oneOf
 oneOf-exact word l k flat = record { sound = first-sound word l; complete = λ a r _. k a r; flat = flat }
 
-module _ {A : Type 0} {f : Form A} {F : Bytes → Type 0} (x : Exact f F) where
+module _ {A : Type 0} {f : Form A} {F : Bytes → Type 0} (x : Faithful f F) where
   ended : (b : Bytes) (l : List A) (r : Bytes) → got [] b ≡ got l r → b ≡ writeMany (f .write) l ++ r
   unfolding writeMany
   ended b l r e = let p : [] ≡ l = cc in let q : b ≡ r = cc in rw (← p) q
@@ -118,11 +138,6 @@ module _ {A : Type 0} {f : Form A} {F : Bytes → Type 0} (x : Exact f F) where
       go ih (got a s) p e = giving-inv (_∷_ a) (readMany (f .read) n s) l r e (λ m t v.
           x .sound b a s p ∙ rw (ih s m r t, ← v) (sym (append-assoc (f .write a) (writeMany (f .write) m) r)))
       go ih broken p e = ended b l r e
-
-  many-flat : (l : List A) → Flat (writeMany (f .write) l)
-  unfolding writeMany
-  many-flat [] = refl
-  many-flat (a ∷ l) = all-append noFeed (f .write a) (writeMany (f .write) l) (x .flat a) (many-flat l)
 
   -- what may follow: no further one
   abbrev pub Last : Bytes → Type 0
@@ -148,13 +163,24 @@ module _ {A : Type 0} {f : Form A} {F : Bytes → Type 0} (x : Exact f F) where
       long [] = omega arith
       long (a ∷ l) = rw (length-append (f .write a) (writeMany (f .write) l)) (omega (arith, some-byte a, long l))
 
-      pub many-exact : Exact (many f) Last
+      pub many-faithful : Faithful (many f) Last
       unfolding many
-      many-exact = record {
+      many-faithful = record {
         sound = λ b l r e. many-sound (length b) b l r e;
         complete = λ l r h. many-complete l (length (writeMany (f .write) l ++ r)) r (rw (length-append (writeMany (f .write) l) r) (omega (arith, long l))) h;
-        flat = many-flat;
       }
+
+module _ {A : Type 0} {f : Form A} {F : Bytes → Type 0} (x : Exact f F) where
+  many-flat : (l : List A) → Flat (writeMany (f .write) l)
+  unfolding writeMany
+  many-flat [] = refl
+  many-flat (a ∷ l) = all-append noFeed (f .write a) (writeMany (f .write) l) (x .flat a) (many-flat l)
+
+  pub many-exact : ((a : A) (r : Bytes) → F (f .write a ++ r)) → ((a : A) → 0 < length (f .write a)) → Exact (many f) (Last (faithful x))
+  unfolding many
+  many-exact starts some-byte =
+      let y = many-faithful (faithful x) starts some-byte in
+      record { sound = y .sound; complete = y .complete; flat = many-flat }
 
 digits-flat : (b : Bytes) → all isDigit b ≡ true → Flat b
 digits-flat [] h = refl

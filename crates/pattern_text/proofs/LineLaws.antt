@@ -67,11 +67,11 @@ weighing-exact = oneOf-exact weighingWord (Margin ∷ Sum ∷ []) go flat
 
 pub test-exact : Exact test Any
 unfolding test
-test-exact = mapped-exact _ _ (⨾-exact sign-exact (⨾-exact (◂-exact " " refl number-exact (λ r. refl)) (◂-exact ")" refl integer-exact (λ r. refl)) (λ b r h. tt)) (λ b r h. tt)) (λ t. refl) (λ t. refl)
+test-exact = mapped-exact _ _ (⨾-exact sign-exact (⨾-exact (◂-exact " " number-exact refl (λ r. refl)) (◂-exact ")" integer-exact refl (λ r. refl)) (λ b r h. tt)) (λ b r h. tt)) (λ t. refl) (λ t. refl)
 
 pub guard-exact : Exact guard Any
 unfolding guard
-guard-exact = mapped-exact _ _ (⨾-exact sign-exact (⨾-exact (◂-exact " " refl number-exact (λ r. refl)) (◂-exact ")" refl number-exact (λ r. refl)) (λ b r h. tt)) (λ b r h. tt)) (λ t. refl) (λ t. refl)
+guard-exact = mapped-exact _ _ (⨾-exact sign-exact (⨾-exact (◂-exact " " number-exact refl (λ r. refl)) (◂-exact ")" number-exact refl (λ r. refl)) (λ b r h. tt)) (λ b r h. tt)) (λ t. refl) (λ t. refl)
 
 pub spaced : Exact (" " ▸ number) NoDigit
 spaced = ▸-exact " " refl number-exact
@@ -79,7 +79,7 @@ spaced = ▸-exact " " refl number-exact
 pub bracket-exact : Exact bracket Any
 unfolding bracket _▸_ _◂_ many writeMany strip
 bracket-exact = ⨾-exact (▸-exact " (reset " refl number-exact)
-    (◂-exact ")" refl (many-exact spaced (λ a r. refl) (λ a. omega arith)) (λ r. (refl, refl)))
+    (◂-exact ")" (many-exact spaced (λ a r. refl) (λ a. omega arith)) refl (λ r. (refl, refl)))
     ends
   where
     ends : (cs : List ℕ) (r : Bytes) → Any r → NoDigit ((many (" " ▸ number) ◂ ")") .write cs ++ r)
@@ -110,8 +110,8 @@ resets-exact = record {
 pub header-exact : Exact headerLine Any
 unfolding headerLine
 header-exact =
-    let n = ◂-exact " " refl number-exact (λ r. refl) in
-    mapped-exact _ _ (⨾-exact (▸-exact "(pattern " refl weighing-exact) (⨾-exact n (⨾-exact n (⨾-exact n (◂-exact ")" refl number-exact (λ r. refl)) (λ b r h. tt)) (λ b r h. tt)) (λ b r h. tt)) (λ b r h. tt)) (λ h. refl) (λ h. refl)
+    let n = ◂-exact " " number-exact refl (λ r. refl) in
+    mapped-exact _ _ (⨾-exact (▸-exact "(pattern " refl weighing-exact) (⨾-exact n (⨾-exact n (⨾-exact n (◂-exact ")" number-exact refl (λ r. refl)) (λ b r h. tt)) (λ b r h. tt)) (λ b r h. tt)) (λ b r h. tt)) (λ h. refl) (λ h. refl)
 
 sign-long : (s : Sign) (b : Bytes) → 0 < length (bytes (signWord s) ++ b)
 unfolding signWord
@@ -136,7 +136,7 @@ no-test r = refl
 pub place-exact : Exact placeLine Any
 unfolding placeLine
 place-exact = mapped-exact _ _ (⨾-exact (▸-exact "(place " refl kind-exact)
-    (◂-exact ")" refl (many-exact test-exact (λ a r. tt) test-long) (λ r. (tt, no-test r))) (λ b r h. tt)) (λ l. refl) (λ l. refl)
+    (◂-exact ")" (many-exact test-exact (λ a r. tt) test-long) refl (λ r. (tt, no-test r))) (λ b r h. tt)) (λ l. refl) (λ l. refl)
 
 -- what follows the guards is no guard
 no-guard : (cs : List ℕ) (r : Bytes) → guard .read ((resets ◂ ")") .write cs ++ r) ≡ broken
@@ -166,9 +166,9 @@ no-digit b r = go (b .0) (b .1)
 
 pub edge-exact : Exact edgeLine Any
 unfolding edgeLine
-edge-exact = mapped-exact _ _ (⨾-exact (▸-exact "(edge " refl (◂-exact " " refl number-exact (λ r. refl)))
+edge-exact = mapped-exact _ _ (⨾-exact (▸-exact "(edge " refl (◂-exact " " number-exact refl (λ r. refl)))
     (⨾-exact number-exact
-    (⨾-exact (many-exact guard-exact (λ a r. tt) guard-long) (◂-exact ")" refl resets-exact no-bracket) (λ cs r h. (tt, no-guard cs r)))
+    (⨾-exact (many-exact guard-exact (λ a r. tt) guard-long) (◂-exact ")" resets-exact refl no-bracket) (λ cs r h. (tt, no-guard cs r)))
     (λ b r h. no-digit b r))
     (λ b r h. tt)) (λ e. refl) (λ e. refl)
 
@@ -201,7 +201,7 @@ line-complete (header h) r = rw (header-exact .complete h r tt)
 line-complete (place h) r = rw (no-header-place h r, place-exact .complete h r tt)
 line-complete (edge h) r = rw (no-header-edge h r, no-place-edge h r, edge-exact .complete h r tt)
 
-whole-inv : {A : Type 0} (x : Reading A) (a : A) → whole x ≡ some a → x ≡ got a []
+pub whole-inv : {A : Type 0} (x : Reading A) (a : A) → whole x ≡ some a → x ≡ got a []
 whole-inv (got c []) a e = let v : c ≡ a = cc in rw v
 whole-inv (got c (d ∷ r)) a e = let z : _≡_ {A = ℕ} 0 1 = cc in absurd (omega arith)
 whole-inv broken a e = let z : _≡_ {A = ℕ} 0 1 = cc in absurd (omega arith)

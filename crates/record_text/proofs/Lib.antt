@@ -1,0 +1,3 @@
+-- Laws: the record text.
+pub mod LineLaws
+pub mod Theorems

@@ -1,0 +1,5 @@
+-- Definitions: the record text.
+pub mod Piece
+pub mod Text
+pub mod Claims
+pub mod Examples

@@ -1,0 +1,1 @@
+// No code: the definitions of the record text, and what is proved of them.
