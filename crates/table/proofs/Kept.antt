@@ -17,7 +17,7 @@ use Rattle.cells.specs.declared.Layout.{Layout}
 use Rattle.cells.specs.Index.{codeOf, clocksAt, ticked, blockAt}
 use Rattle.cells.proofs.Blocks.{below-block}
 use Rattle.table.specs.declared.View.{View}
-use Rattle.table.specs.Moves.{cellAt, marked, each, moved, still, edgeIn, leaveOf, spreadOf, visitOf, visitsOf, passOf, gainAt, placeOf, placesOf, rowOf, rowsOf, startsOf}
+use Rattle.table.specs.Moves.{cellAt, marked, each, moved, still, edgeIn, leaveOf, spreadOf, stayOf, visitOf, visitsOf, passOf, gainAt, placeOf, placesOf, rowOf, rowsOf, startsOf}
 
 pub record Kept (b : ℕ) (t u : List ℤ) : Type 0 where
   pub long : length u ≡ length t
@@ -60,6 +60,11 @@ module _ (l : Layout) (w : Weighing) (n : ℕ) where
   unfolding leaveOf
   leave-kept p cs x e t = kept-cond (eqb (e .from) p) (turn-kept e 0 cs x t) (kept-refl _ t)
 
+  pub stay-kept : (g : ℤ) (p at k : ℕ) (cs : Clocks) (t : List ℤ) → Kept ((n + 1) * l .row) t (stayOf l w g n p at k cs t)
+  unfolding stayOf
+  stay-kept g p at k cs t =
+      kept-cond (ltZ mark (cellAt t (at + k))) (turn-kept (still p) 1 (ticked (l .radices) cs) _ t) (kept-refl _ t)
+
   module _ (es : List Edge) (count : ℕ) where
     pub spread-kept : (p : ℕ) (cs : Clocks) (x : ℤ) (t : List ℤ) → Kept ((n + 1) * l .row) t (spreadOf l w es count n p cs x t)
     unfolding spreadOf
@@ -80,13 +85,14 @@ module _ (l : Layout) (w : Weighing) (n : ℕ) where
     unfolding passOf
     pass-kept g p at t = kept-cond (ltZ mark g) (visits-kept g p at (l .block) t) (kept-refl _ t)
 
-    pub place-kept : (v : View) (p : ℕ) (t : List ℤ) → Kept ((n + 1) * l .row) t (placeOf l w v es count n p t)
+    pub place-kept : (g h : ℤ) (p : ℕ) (t : List ℤ) → Kept ((n + 1) * l .row) t (placeOf l w es count g h n p t)
     unfolding placeOf
-    place-kept v p t =
-        kept-trans (pass-kept (gainAt (v .entered) p) p (blockAt l n 0 p) t) (pass-kept (gainAt (v .staying) p) p (blockAt l n 1 p) _)
+    place-kept g h p t =
+        kept-trans (pass-kept g p (blockAt l n 0 p) t) (pass-kept h p (blockAt l n 1 p) _)
 
     pub places-kept : (v : View) (m : ℕ) (t : List ℤ) → Kept ((n + 1) * l .row) t (placesOf l w v es count n m t)
-    places-kept v m t = kept-each _ (placeOf l w v es count n) (place-kept v) m t
+    places-kept v m t =
+        kept-each _ (λ p. placeOf l w es count (gainAt (v .entered) p) (gainAt (v .staying) p) n p) (λ p. place-kept (gainAt (v .entered) p) (gainAt (v .staying) p) p) m t
 
 pub marked-kept : (b : ℕ) (t : List ℤ) (a n : ℕ) → b ≤ a → Kept b t (marked t a n)
 unfolding marked

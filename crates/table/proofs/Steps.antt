@@ -25,10 +25,11 @@ use Rattle.cells.specs.Index.{codeOf, ticked, Within, blockAt}
 use Rattle.cells.proofs.Digits.{ticked-within, reset-within, coded, block-some}
 use Rattle.cells.proofs.Blocks.{row-next, row-fits, block-low, block-in}
 use Rattle.table.specs.declared.View.{View}
-use Rattle.table.specs.Moves.{cellAt, marked, cleared, each, offered, moved, still, leaveOf, leavesOf, spreadOf, visitOf, visitsOf, passOf, gainAt, placeOf, placesOf, rowOf, rowsOf, startsOf, begun, tickOf, openOf}
+use Rattle.table.specs.declared.Sent.{Sent}
+use Rattle.table.specs.Moves.{cellAt, marked, cleared, each, offered, moved, still, edgeIn, leaveOf, leavesOf, spreadOf, stayOf, sentOf, visitOf, visitsOf, passOf, gainAt, placeOf, placesOf, rowOf, rowsOf, startsOf, begun, tickOf, openOf}
 use Rattle.table.specs.declared.report.Report.{Report}
 use Rattle.table.specs.Reports.{noted, blockNoted, placeNoted, endsNoted, lengthsNoted}
-use Rattle.table.specs.Asks.{Sized, Known, Whole, Bounded, Edges, Moving, Passing, Ready, Rows}
+use Rattle.table.specs.Asks.{Sized, Known, Whole, Bounded, Sourced, Hop, Linked, Edges, Moving, Passing, Ready, Placing, Rows}
 use Rattle.table.proofs.Kept.{Kept, row-kept, marked-kept, pass-kept}
 
 -- ---- sizes
@@ -83,17 +84,60 @@ next-in {t} {l} {n} stage p m st h =
 pub moving-kept : {b : ℕ} {t u : List ℤ} {l : Layout} {n : ℕ} {cs : Clocks} → Kept b t u → Moving t l n cs → Moving u l n cs
 moving-kept k m = record { laid = m .laid; low = m .low; inside = rw (k .long) (m .inside); within = m .within }
 
-pub leave-is : (l : Layout) (w : Weighing) (n p : ℕ) (cs : Clocks) (x : ℤ) (e : Edge) (to : ℕ) (t u : List ℤ) → e .from ≡ p → to ≡ blockAt l (n + 1) 0 (e .to) → u ≡ moved l w e to cs x t → u ≡ leaveOf l w n p cs x e t
+pub leave-is : (l : Layout) (w : Weighing) (n p : ℕ) (cs : Clocks) (x : ℤ) (e : Edge) (t : List ℤ) → e .from ≡ p → moved l w e (blockAt l (n + 1) 0 (e .to)) cs x t ≡ leaveOf l w n p cs x e t
 unfolding leaveOf
-leave-is l w n p cs x e to t u f h q = rw (eq-eqb (e .from) p f) (rw h at q)
+leave-is l w n p cs x e t f = rw (eq-eqb (e .from) p f)
 
-pub leave-no : (l : Layout) (w : Weighing) (n p : ℕ) (cs : Clocks) (x : ℤ) (e : Edge) (t : List ℤ) → (e .from ≡ p → ⊥) → t ≡ leaveOf l w n p cs x e t
+leave-no : (l : Layout) (w : Weighing) (n p : ℕ) (cs : Clocks) (x : ℤ) (e : Edge) (t : List ℤ) → (e .from ≡ p → ⊥) → leaveOf l w n p cs x e t ≡ t
 unfolding leaveOf
 leave-no l w n p cs x e t f = rw (ne-eqb (e .from) p f)
 
-pub spread-is : (l : Layout) (w : Weighing) (es : List Edge) (count n p : ℕ) (cs : Clocks) (x : ℤ) (e : Edge) (to : ℕ) (t u z : List ℤ) → e ≡ still p → to ≡ blockAt l (n + 1) 1 p → u ≡ moved l w e to cs x t → z ≡ leavesOf l w es n p cs x count u → z ≡ spreadOf l w es count n p cs x t
-unfolding spreadOf
-spread-is l w es count n p cs x e to t u z s h q r = r ∙ rw (q, s, h)
+-- ---- what is left of a loop
+
+-- m turns from turn i on
+unfoldable pub rest : (ℕ → List ℤ → List ℤ) → (i m : ℕ) → List ℤ → List ℤ
+rest f i zero t = t
+rest f i (suc m) t = rest f (suc i) m (f i t)
+
+rest-last : (f : ℕ → List ℤ → List ℤ) (i m : ℕ) (t : List ℤ) → rest f i (suc m) t ≡ f (i + m) (rest f i m t)
+unfolding rest
+rest-last f i zero t = let e : i + 0 ≡ i = omega arith in rw e
+rest-last f i (suc m) t = let e : suc i + m ≡ i + suc m = omega arith in rest-last f (suc i) m (f i t) ∙ rw e
+
+rest-all : (f : ℕ → List ℤ → List ℤ) (m : ℕ) (t : List ℤ) → rest f 0 m t ≡ each f m t
+unfolding each rest
+rest-all f zero t = refl
+rest-all f (suc m) t = let e : 0 + m ≡ m = omega arith in rest-last f 0 m t ∙ rw (e, rest-all f m t)
+
+-- turns that change nothing are left out
+rest-skip : (f : ℕ → List ℤ → List ℤ) (d a b m k : ℕ) (t : List ℤ) → b ≡ a + d → m ≡ d + k → ((j : ℕ) (u : List ℤ) → a ≤ j → j < b → f j u ≡ u) → rest f a m t ≡ rest f b k t
+unfolding rest
+rest-skip f zero a b m k t e g h = let x : a ≡ b = omega arith in let y : m ≡ k = omega arith in rw (x, y)
+rest-skip f (suc d) a b m k t e g h =
+    let y : m ≡ suc (d + k) = omega arith in
+    rw y (ap (rest f (suc a) (d + k)) (h a t (omega arith) (omega arith)) ∙ rest-skip f d (suc a) b (d + k) k t (omega arith) refl (λ j u x z. h j u (omega arith) z))
+
+-- along the links only edges that do not leave p are left out
+pub hop-rest : (l : Layout) (w : Weighing) (es : List Edge) (count n p : ℕ) (cs : Clocks) (x : ℤ) (a b : ℕ) (t : List ℤ) → Hop es count p a b → rest (λ i. leaveOf l w n p cs x (edgeIn es i)) a (count - a) t ≡ rest (λ i. leaveOf l w n p cs x (edgeIn es i)) b (count - b) t
+hop-rest l w es count n p cs x a b t h =
+    let u = h .above in
+    let v = h .below in
+    rest-skip (λ i. leaveOf l w n p cs x (edgeIn es i)) (b - a) a b (count - a) (count - b) t (omega arith) (omega arith)
+    (λ j z y o. leave-no l w n p cs x (edgeIn es j) z (h .skips j y o))
+
+-- one edge is taken, and the link after it followed
+pub hop-more : (l : Layout) (w : Weighing) (es : List Edge) (count n p : ℕ) (cs : Clocks) (x : ℤ) (i b : ℕ) (t u T : List ℤ) → i < count → edgeIn es i .from ≡ p → Hop es count p (i + 1) b → u ≡ moved l w (edgeIn es i) (blockAt l (n + 1) 0 (edgeIn es i .to)) cs x t → rest (λ i. leaveOf l w n p cs x (edgeIn es i)) i (count - i) t ≡ T → rest (λ i. leaveOf l w n p cs x (edgeIn es i)) b (count - b) u ≡ T
+unfolding rest
+hop-more l w es count n p cs x i b t u T low from h e r =
+    let m : count - i ≡ suc (count - (i + 1)) = omega arith in
+    let s : i + 1 ≡ suc i = add-one i in
+    let v : u ≡ leaveOf l w n p cs x (edgeIn es i) t = e ∙ leave-is l w n p cs x (edgeIn es i) t from in
+    let r′ : rest (λ i. leaveOf l w n p cs x (edgeIn es i)) i (suc (count - (i + 1))) t ≡ T = rw m at r in
+    sym (hop-rest l w es count n p cs x (i + 1) b u h) ∙ rw (v, s) (rw s at r′)
+
+pub rest-end : (f : ℕ → List ℤ → List ℤ) (i m : ℕ) (t T : List ℤ) → m ≡ 0 → rest f i m t ≡ T → t ≡ T
+unfolding rest
+rest-end f i m t T e h = rw e at h
 
 -- ---- a cell, a block
 
@@ -105,11 +149,10 @@ pub bounded-part : {t : List ℤ} {a n : ℕ} (b m : ℕ) → Bounded t a n → 
 bounded-part {t} {a} {n} b m o h =
     record { at = λ k i. let s : a + b + k ≡ a + (b + k) = omega arith in rw s (o .at (b + k) (omega arith)) }
 
-pub passing-kept : {t u : List ℤ} {l : Layout} {es : List Edge} {count : ℕ} {g : ℤ} {n p at : ℕ} → Kept ((n + 1) * l .row) t u → Passing t l es count g n p at → Passing u l es count g n p at
+pub passing-kept : {t u : List ℤ} {l : Layout} {g : ℤ} {n p at : ℕ} → Kept ((n + 1) * l .row) t u → Passing t l g n p at → Passing u l g n p at
 passing-kept k h =
     record {
       laid = h .laid;
-      edges = h .edges;
       gain = h .gain;
       low = h .low;
       place = h .place;
@@ -118,25 +161,79 @@ passing-kept k h =
       bounded = bounded-kept k (h .apart) (h .bounded);
     }
 
-pub cell-in : {t : List ℤ} {l : Layout} {es : List Edge} {count : ℕ} {g : ℤ} {n p at : ℕ} (k : ℕ) → Passing t l es count g n p at → k < l .block → at + k < length t
-cell-in {t} {l} {es} {count} {g} {n} k h low =
+pub cell-in : {t : List ℤ} {l : Layout} {g : ℤ} {n p at : ℕ} (k : ℕ) → Passing t l g n p at → k < l .block → at + k < length t
+cell-in {t} {l} {g} {n} k h low =
     let f = row-fits l n (h .low) in
     let a = h .apart in
     let i = h .inside in
     omega arith
 
--- the clocks of an occupied cell, a tick later, are those of a cell
-pub passing-moving : {t : List ℤ} {l : Layout} {es : List Edge} {count : ℕ} {g : ℤ} {n p at : ℕ} (cs c : Clocks) → Passing t l es count g n p at → c ≡ ticked (l .radices) cs → Moving t l n c
-passing-moving {t} {l} cs c h e =
-    rw e (record { laid = h .laid; low = h .low; inside = h .inside; within = ticked-within l cs (h .laid) })
+pub passing-moving : {t : List ℤ} {l : Layout} {g : ℤ} {n p at : ℕ} (cs : Clocks) → Passing t l g n p at → Within (l .radices) cs → Moving t l n cs
+passing-moving cs h i = record { laid = h .laid; low = h .low; inside = h .inside; within = i }
 
-pub visit-is : (l : Layout) (w : Weighing) (es : List Edge) (count : ℕ) (g : ℤ) (n p at k : ℕ) (cs c : Clocks) (x : ℤ) (t u : List ℤ) → ltZ mark (cellAt t (at + k)) ≡ true → c ≡ ticked (l .radices) cs → x ≡ weightingOf w .combine (cellAt t (at + k)) g → u ≡ spreadOf l w es count n p c x t → u ≡ visitOf l w es count g n p at k cs t
-unfolding visitOf
-visit-is l w es count g n p at k cs c x t u m a f q = rw m (rw (a, f) at q)
+module _ (l : Layout) (w : Weighing) (g : ℤ) (n p at k : ℕ) (cs : Clocks) (t : List ℤ) where
+  pub stay-is : (c : Clocks) (x : ℤ) (e : Edge) (to : ℕ) (u : List ℤ) → ltZ mark (cellAt t (at + k)) ≡ true → c ≡ ticked (l .radices) cs → x ≡ weightingOf w .combine (cellAt t (at + k)) g → e ≡ still p → to ≡ blockAt l (n + 1) 1 p → u ≡ moved l w e to c x t → u ≡ stayOf l w g n p at k cs t
+  unfolding stayOf
+  stay-is c x e to u m a f s h q = rw m (rw (a, f, s, h) at q)
 
-pub visit-no : (l : Layout) (w : Weighing) (es : List Edge) (count : ℕ) (g : ℤ) (n p at k : ℕ) (cs : Clocks) (t : List ℤ) → ltZ mark (cellAt t (at + k)) ≡ false → t ≡ visitOf l w es count g n p at k cs t
-unfolding visitOf
-visit-no l w es count g n p at k cs t m = rw m
+  pub stay-no : ltZ mark (cellAt t (at + k)) ≡ false → t ≡ stayOf l w g n p at k cs t
+  unfolding stayOf
+  stay-no m = rw m
+
+  -- the stay and what is sent make up the visit
+  pub sent-rest : (es : List Edge) (count first : ℕ) (s : Sent) (u : List ℤ) → Hop es count p 0 first → s ≡ sentOf l w g first count cs (cellAt t (at + k)) → u ≡ stayOf l w g n p at k cs t → rest (λ i. leaveOf l w n p (s .clocks) (s .worth) (edgeIn es i)) (s .first) (count - s .first) u ≡ visitOf l w es count g n p at k cs t
+  unfolding stayOf sentOf visitOf spreadOf rest
+  sent-rest es count first s u h e f = rw (e, f) (by (ltZ mark (cellAt t (at + k))))
+    where
+      x : ℤ
+      x = weightingOf w .combine (cellAt t (at + k)) g
+
+      c : Clocks
+      c = ticked (l .radices) cs
+
+      z : List ℤ
+      z = moved l w (still p) (blockAt l (n + 1) 1 p) c x t
+
+      q : Bool → Sent
+      q b = cond b (record { first = first; clocks = c; worth = x }) (record { first = count; clocks = cs; worth = cellAt t (at + k) })
+
+      by : (b : Bool) → rest (λ i. leaveOf l w n p (q b .clocks) (q b .worth) (edgeIn es i)) (q b .first) (count - q b .first) (cond b z t) ≡ cond b (leavesOf l w es n p c x count z) t
+      by true =
+          let o : count - 0 ≡ count = omega arith in
+          sym (hop-rest l w es count n p c x 0 first z h) ∙ rw o (rest-all (λ i. leaveOf l w n p c x (edgeIn es i)) count z)
+      by false = let o : count - count ≡ 0 = omega arith in rw o
+
+module _ (l : Layout) (w : Weighing) (g : ℤ) (first none : ℕ) (cs : Clocks) (v : ℤ) where
+  pub sent-is : (c : Clocks) (x y : ℤ) → ltZ mark v ≡ true → c ≡ ticked (l .radices) cs → x ≡ weightingOf w .combine v g → y ≡ x → _≡_ {A = Sent} (record { first = first; clocks = c; worth = y }) (sentOf l w g first none cs v)
+  unfolding sentOf
+  sent-is c x y m a f e = rw (m, e, f, a)
+
+  pub sent-low : (s : Sent) → first ≤ none → s ≡ sentOf l w g first none cs v → s .first ≤ none
+  unfolding sentOf
+  sent-low s h e = rw e (by (ltZ mark v))
+    where
+      q : Bool → Sent
+      q b = cond b (record { first = first; clocks = ticked (l .radices) cs; worth = weightingOf w .combine v g }) (record { first = none; clocks = cs; worth = v })
+
+      by : (b : Bool) → q b .first ≤ none
+      by true = h
+      by false = omega arith
+
+  pub sent-no : (y : ℤ) → ltZ mark v ≡ false → y ≡ v → _≡_ {A = Sent} (record { first = none; clocks = cs; worth = y }) (sentOf l w g first none cs v)
+  unfolding sentOf
+  sent-no y m e = rw (m, e)
+
+-- an edge is followed only from an occupied cell, whose clocks are a tick later
+pub sent-first : (l : Layout) (w : Weighing) (g : ℤ) (first none : ℕ) (cs : Clocks) (v : ℤ) (s : Sent) → Laid l → s ≡ sentOf l w g first none cs v → s .first < none → (s .first ≡ first) × Within (l .radices) (s .clocks)
+unfolding sentOf
+sent-first l w g first none cs v s laid e = rw e (by (ltZ mark v))
+  where
+    q : Bool → Sent
+    q b = cond b (record { first = first; clocks = ticked (l .radices) cs; worth = weightingOf w .combine v g }) (record { first = none; clocks = cs; worth = v })
+
+    by : (b : Bool) → q b .first < none → (q b .first ≡ first) × Within (l .radices) (q b .clocks)
+    by true h = (refl, ticked-within l cs laid)
+    by false h = absurd (omega arith)
 
 pub pass-is : (l : Layout) (w : Weighing) (es : List Edge) (count : ℕ) (g : ℤ) (n p at : ℕ) (t u : List ℤ) → ltZ mark g ≡ true → u ≡ visitsOf l w es count g n p at (l .block) t → u ≡ passOf l w es count g n p at t
 unfolding passOf
@@ -153,14 +250,13 @@ ready-kept {l} {n} k r =
     record { inside = rw (k .long) (r .inside); low = r .low; bounded = bounded-kept k (omega (arith, row-next n (l .row))) (r .bounded) }
 
 -- a block of row n can be moved
-pub pass-asks : (t : List ℤ) (l : Layout) (es : List Edge) (count : ℕ) (g : ℤ) (n stage p : ℕ) → Laid l → Edges l es count → Sized 8000000 g → stage ≤ 1 → p < l .places → Ready t l n → Passing t l es count g n p (blockAt l n stage p)
+pub pass-asks : (t : List ℤ) (l : Layout) (g : ℤ) (n stage p : ℕ) → Laid l → Sized 8000000 g → stage ≤ 1 → p < l .places → Ready t l n → Passing t l g n p (blockAt l n stage p)
 unfolding blockAt
-pass-asks t l es count g n stage p laid edges small st pl r =
+pass-asks t l g n stage p laid small st pl r =
     let low = r .low in
     let b = block-low l n stage p (record { laid = laid; low = omega arith; stages = st; place = pl }) in
     record {
       laid = laid;
-      edges = edges;
       gain = small;
       low = r .low;
       place = pl;
@@ -169,24 +265,32 @@ pass-asks t l es count g n stage p laid edges small st pl r =
       bounded = bounded-part _ _ (r .bounded) (omega arith);
     }
 
-pub known-edges : {l : Layout} {v : View} {es : List Edge} {count : ℕ} → Known l v es count → Edges l es count
-known-edges k = record { few = k .edges; tos = k .tos }
+module _ (t : List ℤ) (l : Layout) (w : Weighing) (es : List Edge) (count : ℕ) (g h : ℤ) (n p a b : ℕ) (r : Placing t l g h n p)
+    (ea : a ≡ blockAt l n 0 p) (eb : b ≡ blockAt l n 1 p) where
+  pub place-first : Passing t l g n p a
+  place-first = rw ea (pass-asks t l g n 0 p (r .laid) (r .entered) (omega arith) (r .place) (r .ready))
 
-module _ (t : List ℤ) (l : Layout) (w : Weighing) (v : View) (es : List Edge) (count n p a b : ℕ) (g h : ℤ) (k : Known l v es count) (r : Ready t l n) (low : p < l .places)
-    (eg : g ≡ gainAt (v .entered) p) (eh : h ≡ gainAt (v .staying) p) (ea : a ≡ blockAt l n 0 p) (eb : b ≡ blockAt l n 1 p) where
-  pub place-first : Passing t l es count g n p a
-  place-first = rw (eg, ea) (pass-asks t l es count _ n 0 p (k .laid) (known-edges k) (k .entered p low) (omega arith) low r)
-
-  pub place-second : (u : List ℤ) → u ≡ passOf l w es count g n p a t → Passing u l es count h n p b
+  pub place-second : (u : List ℤ) → u ≡ passOf l w es count g n p a t → Passing u l h n p b
   place-second u e =
       let s : Kept ((n + 1) * l .row) t u = rw e (pass-kept l w n es count g p a t) in
-      rw (eh, eb) (pass-asks u l es count _ n 1 p (k .laid) (known-edges k) (k .staying p low) (omega arith) low (ready-kept s r))
+      rw eb (pass-asks u l h n 1 p (r .laid) (r .staying) (omega arith) (r .place) (ready-kept s (r .ready)))
 
-  pub place-moved : (u x : List ℤ) → u ≡ passOf l w es count g n p a t → x ≡ passOf l w es count h n p b u → x ≡ placeOf l w v es count n p t
+  pub place-moved : (u x : List ℤ) → u ≡ passOf l w es count g n p a t → x ≡ passOf l w es count h n p b u → x ≡ placeOf l w es count g h n p t
   unfolding placeOf
-  place-moved u x e f = f ∙ rw (e, eg, eh, ea, eb)
+  place-moved u x e f = f ∙ rw (e, ea, eb)
 
 -- ---- rows
+
+pub known-place : (t : List ℤ) (l : Layout) (v : View) (es : List Edge) (count : ℕ) (g h : ℤ) (n p : ℕ) → Known l v es count → Ready t l n → p < l .places → g ≡ gainAt (v .entered) p → h ≡ gainAt (v .staying) p → Placing t l g h n p
+known-place t l v es count g h n p k r low eg eh =
+    rw (eg, eh) (record { laid = k .laid; entered = k .entered p low; staying = k .staying p low; place = low; ready = r })
+
+pub known-edges : {l : Layout} {v : View} {es : List Edge} {count : ℕ} {links : List ℕ} → Known l v es count → Linked es count links → Edges l es count links
+known-edges k h = record { few = k .edges; tos = k .tos; linked = h }
+
+pub known-sourced : {l : Layout} {v : View} {es : List Edge} {count : ℕ} → Known l v es count → Sourced es count
+known-sourced k =
+    record { few = k .edges; froms = λ i h. let f = k .froms i h in let p = k .laid .few in omega arith }
 
 pub clear-ready : (l : Layout) (n : ℕ) (t u : List ℤ) → u ≡ cleared t ((n + 1) * l .row) ((n + 1) * l .row + l .row) → Ready t l n → Ready u l n
 clear-ready l n t u f r = rw f (ready-kept (marked-kept ((n + 1) * l .row) t ((n + 1) * l .row) _ (omega arith)) r)

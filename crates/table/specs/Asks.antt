@@ -3,7 +3,7 @@ use Prim.Native.Nat.{ℕ, _+_, _*_, _^_, _≤_, _<_}
 use mathlib.Core.Path.{_≡_}
 use mathlib.Core.List.{List}
 use mathlib.Core.Logic.{_⊎_}
-use lib.ListN.{length}
+use lib.ListN.{length, getD}
 use lib.IntN.{ℤ, natAbs}
 use Rattle.weighting.specs.Cell.{mark}
 use Rattle.pattern.specs.declared.Edge.{Edge}
@@ -52,10 +52,28 @@ pub record Filed (t : List ℤ) (l : Layout) : Type 0 where
 pub record Bounded (t : List ℤ) (a n : ℕ) : Type 0 where
   pub at : (k : ℕ) → k < n → Sized (2 ^ 60) (cellAt t (a + k))
 
--- The edges lead into the layout.
-pub record Edges (l : Layout) (es : List Edge) (count : ℕ) : Type 0 where
+-- Each edge leaves one of 16 places.
+pub record Sourced (es : List Edge) (count : ℕ) : Type 0 where
+  pub few : count ≤ 32
+  pub froms : (i : ℕ) → i < count → edgeIn es i .from < 16
+
+-- b is the first edge from a on that leaves p, or `count`.
+pub record Hop (es : List Edge) (count p a b : ℕ) : Type 0 where
+  pub above : a ≤ b
+  pub below : b ≤ count
+  pub skips : (j : ℕ) → a ≤ j → j < b → edgeIn es j .from ≡ p → ⊥
+  pub lands : b < count → edgeIn es b .from ≡ p
+
+-- The links lead through the edges out of each place.
+pub record Linked (es : List Edge) (count : ℕ) (links : List ℕ) : Type 0 where
+  pub firsts : (p : ℕ) → p < 16 → Hop es count p 0 (getD links (32 + p) 0)
+  pub nexts : (i : ℕ) → i < count → Hop es count (edgeIn es i .from) (i + 1) (getD links i 0)
+
+-- The edges lead into the layout, and can be gone through place by place.
+pub record Edges (l : Layout) (es : List Edge) (count : ℕ) (links : List ℕ) : Type 0 where
   pub few : count ≤ 32
   pub tos : (i : ℕ) → i < count → edgeIn es i .to < l .places
+  pub linked : Linked es count links
 
 -- A worth with these clocks can be moved into row n + 1.
 pub record Moving (t : List ℤ) (l : Layout) (n : ℕ) (cs : Clocks) : Type 0 where
@@ -65,9 +83,8 @@ pub record Moving (t : List ℤ) (l : Layout) (n : ℕ) (cs : Clocks) : Type 0 w
   pub within : Within (l .radices) cs
 
 -- The cells of the block at `at`, of length n and place p, can be moved.
-pub record Passing (t : List ℤ) (l : Layout) (es : List Edge) (count : ℕ) (g : ℤ) (n p at : ℕ) : Type 0 where
+pub record Passing (t : List ℤ) (l : Layout) (g : ℤ) (n p at : ℕ) : Type 0 where
   pub laid : Laid l
-  pub edges : Edges l es count
   pub gain : Sized 8000000 g
   pub low : n < l .high
   pub place : p < l .places
@@ -80,6 +97,14 @@ pub record Ready (t : List ℤ) (l : Layout) (n : ℕ) : Type 0 where
   pub inside : cellsIn l ≤ length t
   pub low : n < l .high
   pub bounded : Bounded t (n * l .row) (l .row)
+
+-- The cells of length n in place p can be moved.
+pub record Placing (t : List ℤ) (l : Layout) (g h : ℤ) (n p : ℕ) : Type 0 where
+  pub laid : Laid l
+  pub entered : Sized 8000000 g
+  pub staying : Sized 8000000 h
+  pub place : p < l .places
+  pub ready : Ready t l n
 
 -- The rows below `high` can be moved.
 pub record Rows (t : List ℤ) (l : Layout) : Type 0 where

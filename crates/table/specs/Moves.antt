@@ -18,6 +18,7 @@ use Rattle.cells.specs.declared.Layout.{Layout}
 use Rattle.cells.specs.Layout.{cellsIn}
 use Rattle.cells.specs.Index.{codeOf, clocksAt, ticked, blockAt}
 use Rattle.table.specs.declared.View.{View}
+use Rattle.table.specs.declared.Sent.{Sent}
 
 abbrev pub cellAt : List ℤ → ℕ → ℤ
 cellAt t i = getD t i (pos 0)
@@ -75,6 +76,19 @@ visitOf l w es count g n p at k cs t =
     (spreadOf l w es count n p (ticked (l .radices) cs) (weightingOf w .combine (cellAt t (at + k)) g) t)
     t
 
+-- The same in two parts, as the code does it: the stay, and what is then sent along the edges from `first` on.
+unfoldable pub stayOf : Layout → Weighing → (gain : ℤ) → (n p at k : ℕ) → Clocks → List ℤ → List ℤ
+stayOf l w g n p at k cs t =
+    cond (ltZ mark (cellAt t (at + k)))
+    (moved l w (still p) (blockAt l (n + 1) 1 p) (ticked (l .radices) cs) (weightingOf w .combine (cellAt t (at + k)) g) t)
+    t
+
+unfoldable pub sentOf : Layout → Weighing → (gain : ℤ) → (first none : ℕ) → Clocks → (cell : ℤ) → Sent
+sentOf l w g first none cs v =
+    cond (ltZ mark v)
+    (record { first = first; clocks = ticked (l .radices) cs; worth = weightingOf w .combine v g })
+    (record { first = none; clocks = cs; worth = v })
+
 -- The first m cells of the block.
 abbrev pub visitsOf : Layout → Weighing → List Edge → (count : ℕ) → (gain : ℤ) → (n p at m : ℕ) → List ℤ → List ℤ
 visitsOf l w es count g n p at m t =
@@ -91,14 +105,14 @@ abbrev pub gainAt : List ℤ → ℕ → ℤ
 gainAt gs p = getD gs p (pos 0)
 
 -- The cells of length n in place p: those just entered, then those staying.
-unfoldable pub placeOf : Layout → Weighing → View → List Edge → (count n p : ℕ) → List ℤ → List ℤ
-placeOf l w v es count n p t =
-    passOf l w es count (gainAt (v .staying) p) n p (blockAt l n 1 p)
-    (passOf l w es count (gainAt (v .entered) p) n p (blockAt l n 0 p) t)
+unfoldable pub placeOf : Layout → Weighing → List Edge → (count : ℕ) → (entered staying : ℤ) → (n p : ℕ) → List ℤ → List ℤ
+placeOf l w es count g h n p t =
+    passOf l w es count h n p (blockAt l n 1 p) (passOf l w es count g n p (blockAt l n 0 p) t)
 
 -- The first m places.
 abbrev pub placesOf : Layout → Weighing → View → List Edge → (count n m : ℕ) → List ℤ → List ℤ
-placesOf l w v es count n m t = each (placeOf l w v es count n) m t
+placesOf l w v es count n m t =
+    each (λ p. placeOf l w es count (gainAt (v .entered) p) (gainAt (v .staying) p) n p) m t
 
 -- Row n + 1 anew, from row n.
 unfoldable pub rowOf : Layout → Weighing → View → List Edge → (count n : ℕ) → List ℤ → List ℤ

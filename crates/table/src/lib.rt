@@ -24,15 +24,35 @@ ghost use lib.ListN.{length, set};
 ghost use lib.Signed.{ltZ};
 ghost use Rattle.weighting.specs.Cell.{mark};
 ghost use Rattle.cells.specs.Layout.{Laid};
-ghost use Rattle.cells.specs.Index.{Within};
-ghost use Rattle.table.specs.Moves.{cleared, offered, still, moved, leaveOf, leavesOf, spreadOf, visitOf, visitsOf, passOf};
+ghost use Rattle.cells.specs.Index.{Within, blockAt};
+ghost use Rattle.table.specs.Moves.{cellAt, cleared, offered, still, moved, stayOf, sentOf, visitsOf, passOf};
 ghost use Rattle.table.specs.Moves.{placeOf, placesOf, rowOf, rowsOf, begun, tickOf, openOf};
-ghost use Rattle.table.specs.Asks.{Known, Ticking, Filed, Edges, Moving, Passing, Ready, Rows};
+ghost use Rattle.table.specs.Asks.{Known, Ticking, Filed, Sourced, Linked, Edges, Moving, Passing, Placing, Ready, Rows};
 
 // What one tick gains in each place, by stage: just entered, or staying. MARK where the place cannot be stayed in.
 pub struct View {
     pub entered: [i64; 16],
     pub staying: [i64; 16],
+}
+
+// The edges out of each place, as lists: entry 32 + p has the first edge out of place p, entry i the next after i out of
+// the same place, and `count` ends a list.
+fn links_of(edges: [Edge; 32], count: usize) -> [u8; 48]
+    requires { ⌜ Sourced edges count ⌝ }
+    ensures { λ r. ⌜ Linked edges count r ⌝ }
+{
+    let none = count as u8;
+    let mut links = [none; 48];
+    let mut i = count;
+    while 0 < i {
+        i -= 1;
+        let e = edges[i];
+        let place = 32 + e.from as usize;
+        let next = links[place];
+        links[i] = next;
+        links[place] = i as u8;
+    }
+    links
 }
 
 // The mark in the cells from `from` to `to`.
@@ -85,117 +105,94 @@ fn turn(table: &mut [i64], l: Layout, w: Weighing, e: Edge, to: usize, clocks: [
     }
 }
 
-// From place p along e into length n + 1, if e leaves p.
-fn leave(
-    table: &mut [i64],
-    l: Layout,
-    w: Weighing,
-    e: Edge,
-    n: usize,
-    p: usize,
-    clocks: [u32; 4],
-    worth: i64,
-)
+// Along e into length n + 1, just entered.
+fn leave(table: &mut [i64], l: Layout, w: Weighing, e: Edge, n: usize, clocks: [u32; 4], worth: i64)
     requires { ⌜ (Moving (now table) l n clocks) × (e .to < l .places) ⌝ }
-    ensures { λ _. ⌜ now (table .exit) ≡ leaveOf l w n p clocks worth e (now (table .entry)) ⌝ }
+    ensures { λ _. ⌜ now (table .exit) ≡ moved l w e (blockAt l (n + 1) 0 (e .to)) clocks worth (now (table .entry)) ⌝ }
 {
-    let from = e.from as usize;
-    if from == p {
-        let end = e.to as usize;
-        let to = block_at(l, n + 1, 0, end);
-        turn(table, l, w, e, to, clocks, worth);
-    }
-}
-
-// Along each edge out of place p.
-fn leaves(
-    table: &mut [i64],
-    l: Layout,
-    w: Weighing,
-    edges: [Edge; 32],
-    count: usize,
-    n: usize,
-    p: usize,
-    clocks: [u32; 4],
-    worth: i64,
-)
-    requires { ⌜ (Moving (now table) l n clocks) × (Edges l edges count) ⌝ }
-    ensures { λ _. ⌜ now (table .exit) ≡ leavesOf l w edges n p clocks worth count (now (table .entry)) ⌝ }
-{
-    let mut i: usize = 0;
-    while i < count {
-        let e = edges[i];
-        leave(table, l, w, e, n, p, clocks, worth);
-        i += 1;
-    }
-}
-
-// All moves of one occupied cell: it stays in p, then goes along each edge out of p.
-fn spread(
-    table: &mut [i64],
-    l: Layout,
-    w: Weighing,
-    edges: [Edge; 32],
-    count: usize,
-    n: usize,
-    p: usize,
-    clocks: [u32; 4],
-    worth: i64,
-)
-    requires { ⌜ (Moving (now table) l n clocks) × (Edges l edges count) × (p < l .places) ⌝ }
-    ensures { λ _. ⌜ now (table .exit) ≡ spreadOf l w edges count n p clocks worth (now (table .entry)) ⌝ }
-{
-    let e = stay(p as u8);
-    let to = block_at(l, n + 1, 1, p);
+    let end = e.to as usize;
+    let to = block_at(l, n + 1, 0, end);
     turn(table, l, w, e, to, clocks, worth);
-    leaves(table, l, w, edges, count, n, p, clocks, worth);
 }
 
-// Cell k of the block at `at`, which has these clocks: looked at once, and moved if it holds a worth.
+// What a visited cell sends along the edges out of its place: its clocks and its worth a tick later, from this edge on.
+pub struct Sent {
+    pub first: usize,
+    pub clocks: [u32; 4],
+    pub worth: i64,
+}
+
+// Cell k of the block at `at`, which has these clocks, looked at once. A worth stays in p, and is sent along the edges
+// from `first` on; an empty cell is sent along none.
 fn visit(
     table: &mut [i64],
     l: Layout,
     w: Weighing,
-    edges: [Edge; 32],
-    count: usize,
     gain: i64,
     n: usize,
     p: usize,
     at: usize,
     k: usize,
     clocks: [u32; 4],
-)
-    requires { ⌜ (Passing (now table) l edges count gain n p at) × (ltZ mark gain ≡ true) × (k < l .block) ⌝ }
-    ensures { λ _. ⌜ now (table .exit) ≡ visitOf l w edges count gain n p at k clocks (now (table .entry)) ⌝ }
+    first: usize,
+    none: usize,
+) -> Sent
+    requires { ⌜ (Passing (now table) l gain n p at) × (ltZ mark gain ≡ true) × (k < l .block) ⌝ }
+    ensures { λ r. ⌜ r ≡ sentOf l w gain first none clocks (cellAt (now (table .entry)) (at + k)) ⌝ }
+    ensures { λ _. ⌜ now (table .exit) ≡ stayOf l w gain n p at k clocks (now (table .entry)) ⌝ }
 {
     let v = table[at + k];
     if MARK < v {
         let ticked = tick_clocks(l, clocks);
         let grown = combine(w, v, gain);
-        spread(table, l, w, edges, count, n, p, ticked, grown);
+        let e = stay(p as u8);
+        let to = block_at(l, n + 1, 1, p);
+        turn(table, l, w, e, to, ticked, grown);
+        Sent {
+            first: first,
+            clocks: ticked,
+            worth: grown,
+        }
+    } else {
+        Sent {
+            first: none,
+            clocks: clocks,
+            worth: v,
+        }
     }
 }
 
-// All cells of the block; the clocks are carried along.
+// All cells of the block, the clocks carried along, and from each occupied one all edges out of p. The two loops stand
+// together so that the edges are copied once a block and not once a cell.
 fn visits(
     table: &mut [i64],
     l: Layout,
     w: Weighing,
     edges: [Edge; 32],
     count: usize,
+    links: &[u8; 48],
     gain: i64,
     n: usize,
     p: usize,
     at: usize,
 )
-    requires { ⌜ (Passing (now table) l edges count gain n p at) × (ltZ mark gain ≡ true) ⌝ }
+    requires { ⌜ (Passing (now table) l gain n p at) × (Edges l edges count (now links)) × (ltZ mark gain ≡ true) ⌝ }
     ensures { λ _. ⌜ now (table .exit) ≡ visitsOf l w edges count gain n p at (l .block) (now (table .entry)) ⌝ }
 {
     let size = l.block;
+    let first = links[32 + p] as usize;
     let mut clocks: [u32; 4] = [0, 0, 0, 0];
     let mut k: usize = 0;
     while k < size {
-        visit(table, l, w, edges, count, gain, n, p, at, k, clocks);
+        let sent = visit(table, l, w, gain, n, p, at, k, clocks, first, count);
+        let ticked = sent.clocks;
+        let worth = sent.worth;
+        let mut i = sent.first;
+        while i < count {
+            let e = edges[i];
+            leave(table, l, w, e, n, ticked, worth);
+            i = links[i] as usize;
+        }
         let next = next_clocks(l, clocks, k);
         clocks = next;
         k += 1;
@@ -209,16 +206,17 @@ fn pass(
     w: Weighing,
     edges: [Edge; 32],
     count: usize,
+    links: &[u8; 48],
     gain: i64,
     n: usize,
     p: usize,
     at: usize,
 )
-    requires { ⌜ Passing (now table) l edges count gain n p at ⌝ }
+    requires { ⌜ (Passing (now table) l gain n p at) × (Edges l edges count (now links)) ⌝ }
     ensures { λ _. ⌜ now (table .exit) ≡ passOf l w edges count gain n p at (now (table .entry)) ⌝ }
 {
     if MARK < gain {
-        visits(table, l, w, edges, count, gain, n, p, at);
+        visits(table, l, w, edges, count, links, gain, n, p, at);
     }
 }
 
@@ -227,21 +225,21 @@ fn place(
     table: &mut [i64],
     l: Layout,
     w: Weighing,
-    v: View,
     edges: [Edge; 32],
     count: usize,
+    links: &[u8; 48],
+    entered: i64,
+    staying: i64,
     n: usize,
     p: usize,
 )
-    requires { ⌜ (Known l v edges count) × (Ready (now table) l n) × (p < l .places) ⌝ }
-    ensures { λ _. ⌜ now (table .exit) ≡ placeOf l w v edges count n p (now (table .entry)) ⌝ }
+    requires { ⌜ (Placing (now table) l entered staying n p) × (Edges l edges count (now links)) ⌝ }
+    ensures { λ _. ⌜ now (table .exit) ≡ placeOf l w edges count entered staying n p (now (table .entry)) ⌝ }
 {
-    let entered = v.entered[p];
-    let staying = v.staying[p];
     let a = block_at(l, n, 0, p);
     let b = block_at(l, n, 1, p);
-    pass(table, l, w, edges, count, entered, n, p, a);
-    pass(table, l, w, edges, count, staying, n, p, b);
+    pass(table, l, w, edges, count, links, entered, n, p, a);
+    pass(table, l, w, edges, count, links, staying, n, p, b);
 }
 
 // Row n into row n + 1, place by place: each cell of row n is visited once.
@@ -252,15 +250,18 @@ fn row(
     v: View,
     edges: [Edge; 32],
     count: usize,
+    links: &[u8; 48],
     n: usize,
 )
-    requires { ⌜ (Known l v edges count) × (Ready (now table) l n) ⌝ }
+    requires { ⌜ (Known l v edges count) × (Linked edges count (now links)) × (Ready (now table) l n) ⌝ }
     ensures { λ _. ⌜ now (table .exit) ≡ placesOf l w v edges count n (l .places) (now (table .entry)) ⌝ }
 {
     let m = l.places;
     let mut p: usize = 0;
     while p < m {
-        place(table, l, w, v, edges, count, n, p);
+        let entered = v.entered[p];
+        let staying = v.staying[p];
+        place(table, l, w, edges, count, links, entered, staying, n, p);
         p += 1;
     }
 }
@@ -273,26 +274,35 @@ fn advance(
     v: View,
     edges: [Edge; 32],
     count: usize,
+    links: &[u8; 48],
     n: usize,
 )
-    requires { ⌜ (Known l v edges count) × (Ready (now table) l n) ⌝ }
+    requires { ⌜ (Known l v edges count) × (Linked edges count (now links)) × (Ready (now table) l n) ⌝ }
     ensures { λ _. ⌜ now (table .exit) ≡ rowOf l w v edges count n (now (table .entry)) ⌝ }
 {
     let size = l.row;
     let at = (n + 1) * size;
     clear(table, at, at + size);
-    row(table, l, w, v, edges, count, n);
+    row(table, l, w, v, edges, count, links, n);
 }
 
 // All rows, the longest first.
-fn rows(table: &mut [i64], l: Layout, w: Weighing, v: View, edges: [Edge; 32], count: usize)
-    requires { ⌜ (Known l v edges count) × (Rows (now table) l) ⌝ }
+fn rows(
+    table: &mut [i64],
+    l: Layout,
+    w: Weighing,
+    v: View,
+    edges: [Edge; 32],
+    count: usize,
+    links: &[u8; 48],
+)
+    requires { ⌜ (Known l v edges count) × (Linked edges count (now links)) × (Rows (now table) l) ⌝ }
     ensures { λ _. ⌜ now (table .exit) ≡ rowsOf l w v edges count (l .high) (now (table .entry)) ⌝ }
 {
     let mut n = l.high;
     while 0 < n {
         n -= 1;
-        advance(table, l, w, v, edges, count, n);
+        advance(table, l, w, v, edges, count, links, n);
     }
 }
 
@@ -334,7 +344,8 @@ pub fn tick(
     requires { ⌜ Ticking (now table) l v edges count ⌝ }
     ensures { λ _. ⌜ now (table .exit) ≡ tickOf l w v edges count starts (now (table .entry)) ⌝ }
 {
-    rows(table, l, w, v, edges, count);
+    let links = links_of(edges, count);
+    rows(table, l, w, v, edges, count, &links);
     clear(table, 0, l.row);
     begin(table, l, w, starts);
 }

@@ -32,7 +32,7 @@ use Rattle.table.specs.declared.View.{View}
 use Rattle.table.specs.Moves.{cellAt, marked, cleared, each, offered, moved, still, edgeIn, leaveOf, leavesOf, spreadOf, visitOf, visitsOf, passOf, gainAt, placeOf, placesOf, rowOf, rowsOf}
 use Rattle.table.specs.Asks.{Sized, Known, Bounded, Passing, Ready}
 use Rattle.table.proofs.Kept.{Kept, kept-trans, kept-each, turn-kept, leave-kept, visit-kept, pass-kept, place-kept, marked-kept, marked-long, row-kept}
-use Rattle.table.proofs.Steps.{sized-in, bounded-kept, pass-asks, known-edges, bounded-from}
+use Rattle.table.proofs.Steps.{sized-in, bounded-kept, pass-asks, bounded-from}
 use Rattle.table_laws.specs.Offers.{Moves, Passes, stageOf, gainsOf, Follows, Goes, RowOffers}
 
 -- cell j of u holds the best of what cell j of t held and what has Q
@@ -234,7 +234,7 @@ module _ (l : Layout) (w : Weighing) (es : List Edge) (count : ℕ) (g : ℤ) (n
       offers-each w j ((n + 1) * l .row) (λ k. visitOf l w es count g n p at k (clocksAt (l .radices) k)) (λ k. visit-kept l w n es count g p at k (clocksAt (l .radices) k)) (Visits l w es count g n p at t j) u m
       (λ k z i z-kept. let both = kept-trans kept z-kept in let e = both .long in visit-offers k z (both .same (at + k) (omega arith)) (o .at k i) (omega arith))
 
-pass-offers : (l : Layout) (w : Weighing) (es : List Edge) (count : ℕ) (g : ℤ) (n p at : ℕ) (t u : List ℤ) (j : ℕ) → Kept ((n + 1) * l .row) t u → Passing t l es count g n p at → j < length t → Offers w u (passOf l w es count g n p at u) j (Any (l .block) (Visits l w es count g n p at t j))
+pass-offers : (l : Layout) (w : Weighing) (es : List Edge) (count : ℕ) (g : ℤ) (n p at : ℕ) (t u : List ℤ) (j : ℕ) → Kept ((n + 1) * l .row) t u → Passing t l g n p at → j < length t → Offers w u (passOf l w es count g n p at u) j (Any (l .block) (Visits l w es count g n p at t j))
 unfolding passOf
 pass-offers l w es count g n p at t u j kept a low = by (ltZ mark g) refl
   where
@@ -255,19 +255,19 @@ module _ (l : Layout) (w : Weighing) (v : View) (es : List Edge) (count n : ℕ)
   Placed p x = Staged true p x ⊎ Staged false p x
 
   module _ (k : Known l v es count) (r : Ready t l n) (low : j < length t) where
-    place-offers : (p : ℕ) (u : List ℤ) → p < l .places → Kept ((n + 1) * l .row) t u → Offers w u (placeOf l w v es count n p u) j (Placed p)
+    place-offers : (p : ℕ) (u : List ℤ) → p < l .places → Kept ((n + 1) * l .row) t u → Offers w u (placeOf l w es count (gainAt (v .entered) p) (gainAt (v .staying) p) n p u) j (Placed p)
     unfolding placeOf
     place-offers p u h kept =
         offers-then w j u z (passOf l w es count (gainAt (v .staying) p) n p (blockAt l n 1 p) z) (Staged true p) (Staged false p)
-        (pass-offers l w es count (gainAt (v .entered) p) n p (blockAt l n 0 p) t u j kept (pass-asks t l es count _ n 0 p (k .laid) (known-edges k) (k .entered p h) (omega arith) h r) low)
-        (pass-offers l w es count (gainAt (v .staying) p) n p (blockAt l n 1 p) t z j (kept-trans kept (pass-kept l w n es count (gainAt (v .entered) p) p (blockAt l n 0 p) u)) (pass-asks t l es count _ n 1 p (k .laid) (known-edges k) (k .staying p h) (omega arith) h r) low)
+        (pass-offers l w es count (gainAt (v .entered) p) n p (blockAt l n 0 p) t u j kept (pass-asks t l _ n 0 p (k .laid) (k .entered p h) (omega arith) h r) low)
+        (pass-offers l w es count (gainAt (v .staying) p) n p (blockAt l n 1 p) t z j (kept-trans kept (pass-kept l w n es count (gainAt (v .entered) p) p (blockAt l n 0 p) u)) (pass-asks t l _ n 1 p (k .laid) (k .staying p h) (omega arith) h r) low)
       where
         z : List ℤ
         z = passOf l w es count (gainAt (v .entered) p) n p (blockAt l n 0 p) u
 
     places-offers : (u : List ℤ) → Kept ((n + 1) * l .row) t u → Offers w u (placesOf l w v es count n (l .places) u) j (Any (l .places) Placed)
     places-offers u kept =
-        offers-each w j ((n + 1) * l .row) (placeOf l w v es count n) (place-kept l w n es count v) Placed u (l .places)
+        offers-each w j ((n + 1) * l .row) (λ p. placeOf l w es count (gainAt (v .entered) p) (gainAt (v .staying) p) n p) (λ p. place-kept l w n es count (gainAt (v .entered) p) (gainAt (v .staying) p) p) Placed u (l .places)
         (λ p z h z-kept. place-offers p z h (kept-trans kept z-kept))
 
     -- place by place or edge by edge, a row offers the same
@@ -455,7 +455,7 @@ module _ (l : Layout) (w : Weighing) (v : View) (es : List Edge) (count : ℕ) (
       (above-each _ (λ c. visitOf l w es count g n p at c (clocksAt (l .radices) c)) (l .block) (λ c u z. above-visit g p at c u h) t)
       above-refl
 
-  above-place : (p : ℕ) (t : List ℤ) → p < l .places → Above ((n + 1) * l .row + l .row) t (placeOf l w v es count n p t)
+  above-place : (p : ℕ) (t : List ℤ) → p < l .places → Above ((n + 1) * l .row + l .row) t (placeOf l w es count (gainAt (v .entered) p) (gainAt (v .staying) p) n p t)
   unfolding placeOf
   above-place p t h =
       above-trans (above-pass (gainAt (v .entered) p) p (blockAt l n 0 p) t h) (above-pass (gainAt (v .staying) p) p (blockAt l n 1 p) _ h)
@@ -464,7 +464,7 @@ module _ (l : Layout) (w : Weighing) (v : View) (es : List Edge) (count : ℕ) (
   unfolding rowOf
   above-row t =
       above-trans (above-marked _ t ((n + 1) * l .row) _ (omega arith))
-      (above-each _ (placeOf l w v es count n) (l .places) (λ p u h. above-place p u h) _)
+      (above-each _ (λ p. placeOf l w es count (gainAt (v .entered) p) (gainAt (v .staying) p) n p) (l .places) (λ p u h. above-place p u h) _)
 
 module _ (l : Layout) (w : Weighing) (v : View) (es : List Edge) (count : ℕ) (k : Known l v es count) where
   pub above-rows : (m : ℕ) (t : List ℤ) → m ≤ l .high → Above (m * l .row + l .row) t (rowsOf l w v es count m t)

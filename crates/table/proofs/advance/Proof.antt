@@ -11,26 +11,26 @@ add-at c = search needs
 
 mul-at : tie.Need-mul-at
 mul-at c = let st = c in
-    let h = row-fits (st .args .l) (st .args .n) (st .pre .1 .low) in
+    let h = row-fits (st .args .l) (st .args .n) (st .pre .2 .low) in
     let s = st .pre .0 .laid .small in
     omega arith
 
 add-clear : tie.Need-add-clear
 add-clear c = let st = c .before in
-    let h = row-fits (st .args .l) (st .args .n) (st .pre .1 .low) in
+    let h = row-fits (st .args .l) (st .args .n) (st .pre .2 .low) in
     let s = st .pre .0 .laid .small in
     omega arith
 
 clear-requires : tie.Need-clear-requires
 clear-requires c κs = let st = c .before in
-    let h = row-fits (st .args .l) (st .args .n) (st .pre .1 .low) in
+    let h = row-fits (st .args .l) (st .args .n) (st .pre .2 .low) in
     let s = st .pre .0 .laid .small in
-    let i = st .pre .1 .inside in
+    let i = st .pre .2 .inside in
     (omega arith, omega arith)
 
 row-requires : tie.Need-row-requires
 row-requires c κs = let st = c .before .before .before .before in
-    (st .pre .0, clear-ready (st .args .l) (st .args .n) (st .args .table .now) _ (c .before .before .clear .ensures) (st .pre .1))
+    (st .pre .0, st .pre .1, clear-ready (st .args .l) (st .args .n) (st .args .table .now) _ (c .before .before .clear .ensures) (st .pre .2))
 
 same-length : tie.Need-same-length
 same-length c = search needs

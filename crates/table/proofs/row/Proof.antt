@@ -3,28 +3,54 @@ use Prim.Native.Nat.{ℕ, _+_, _*_, _≤_, _-_, zero-le}
 use native.Mathlib.Omega.{arith}
 use mathlib.Core.Path.{_≡_, refl, ap, _∙_}
 use borrow.Author.Needs.{needs}
-use lib.ListN.{length}
+use lib.IntN.{pos}
+use lib.ListN.{length, getD}
+use mir.Syntax.{w64}
+use mir.Val.{toZ, ofZ}
+use mir.Facts.{toZ-ofZ}
 use Rattle.table.specs.Asks.{Ready}
-use Rattle.table.specs.Moves.{each, placeOf, placesOf}
-use Rattle.table.proofs.Steps.{each-more, ready-kept}
+use Rattle.table.specs.Moves.{each, gainAt, placeOf, placesOf}
+use Rattle.table.proofs.Steps.{each-more, ready-kept, known-place, known-edges}
 use Rattle.table.proofs.Kept.{Kept, place-kept}
 use Rattle.table.proofs.row.Statement.{statement}
 use Rattle.table.proofs.row.Tie as tie
 
 abbrev Inv-loop : tie.InvT-loop
-Inv-loop table₀ l w v edges count n m p₀ table p =
+Inv-loop table₀ l w edges count links n v m p₀ table p =
     (p ≤ m) × ((length table ≡ length table₀) × ((Ready table l n) × (table ≡ placesOf l w v edges count n p table₀)))
 
 abbrev μ-loop : tie.MeasureT-loop
-μ-loop table₀ l w v edges count n m p₀ table p = m - p
+μ-loop table₀ l w edges count links n v m p₀ table p = m - p
 
 loop-holds : tie.Need-loop-holds Inv-loop μ-loop
 unfolding each
-loop-holds c = (zero-le, (refl, (c .pre .1, refl)))
+loop-holds c = (zero-le, (refl, (c .pre .2, refl)))
+
+mul-entered : tie.Need-mul-entered Inv-loop μ-loop
+mul-entered c = let h = c .before .before .pre .0 .laid .few in
+    omega arith
+
+element-copy-out-entered : tie.Need-element-copy-out-entered Inv-loop μ-loop
+element-copy-out-entered c = let h = c .before .before .pre .0 .laid .few in
+    omega arith
+
+mul-staying : tie.Need-mul-staying Inv-loop μ-loop
+mul-staying c = let h = c .before .before .before .pre .0 .laid .few in
+    omega arith
+
+element-copy-out-staying : tie.Need-element-copy-out-staying Inv-loop μ-loop
+element-copy-out-staying c = let h = c .before .before .before .pre .0 .laid .few in
+    omega arith
 
 place-requires : tie.Need-place-requires Inv-loop μ-loop
-place-requires c κs = let l = c .before .before .loop in
-    (c .before .before .before .pre .0, l .inv .1 .1 .0, omega arith)
+place-requires c κs = let st = c .before .before .before .before .before in
+    let a = st .args in
+    let l = c .before .before .before .before .loop in
+    let x = getD (a .t4 .entered) (l .p) (pos 0) in
+    let y = getD (a .t4 .staying) (l .p) (pos 0) in
+    let q : toZ w64 (ofZ w64 x) ≡ x = toZ-ofZ {w = w64} {z = x} (record { sfits = c .before .before .entered .given }) in
+    let r : toZ w64 (ofZ w64 y) ≡ y = toZ-ofZ {w = w64} {z = y} (record { sfits = c .before .staying .given }) in
+    (known-place (l .table) (a .l) (a .t4) (a .edges) (a .count) _ _ (a .n) (l .p) (st .pre .0) (l .inv .1 .1 .0) (omega arith) q r, known-edges (st .pre .0) (st .pre .1))
 
 add-p : tie.Need-add-p Inv-loop μ-loop
 add-p c = omega arith
@@ -33,12 +59,17 @@ loop-less : tie.Need-loop-less Inv-loop μ-loop
 loop-less c = omega arith
 
 loop-again : tie.Need-loop-again Inv-loop μ-loop
-loop-again c = let a = c .before .before .before .before .before .args in
-    let l = c .before .before .before .before .loop in
+loop-again c = let st = c .before .before .before .before .before .before .before in
+    let a = st .args in
+    let l = c .before .before .before .before .before .before .loop in
+    let x = getD (a .t4 .entered) (l .p) (pos 0) in
+    let y = getD (a .t4 .staying) (l .p) (pos 0) in
+    let q : toZ w64 (ofZ w64 x) ≡ x = toZ-ofZ {w = w64} {z = x} (record { sfits = c .before .before .before .before .entered .given }) in
+    let r : toZ w64 (ofZ w64 y) ≡ y = toZ-ofZ {w = w64} {z = y} (record { sfits = c .before .before .before .staying .given }) in
     let u = c .before .place .last .0 in
-    let e = c .before .place .ensures in
-    let k : Kept ((a .n + 1) * a .l .row) (l .table) u = rw e (place-kept (a .l) (a .w) (a .n) (a .edges) (a .count) (a .v) (l .p) (l .table)) in
-    (omega arith, (k .long ∙ l .inv .1 .0, (ready-kept k (l .inv .1 .1 .0), each-more (placeOf (a .l) (a .w) (a .v) (a .edges) (a .count) (a .n)) (l .p) (a .table .now) (l .table) u (l .inv .1 .1 .1) e)))
+    let e : u ≡ placeOf (a .l) (a .w) (a .edges) (a .count) (gainAt (a .t4 .entered) (l .p)) (gainAt (a .t4 .staying) (l .p)) (a .n) (l .p) (l .table) = rw (q, r) at (c .before .place .ensures) in
+    let k : Kept ((a .n + 1) * a .l .row) (l .table) u = rw e (place-kept (a .l) (a .w) (a .n) (a .edges) (a .count) _ _ (l .p) (l .table)) in
+    (omega arith, (k .long ∙ l .inv .1 .0, (ready-kept k (l .inv .1 .1 .0), each-more (λ p. placeOf (a .l) (a .w) (a .edges) (a .count) (gainAt (a .t4 .entered) p) (gainAt (a .t4 .staying) p) (a .n) p) (l .p) (a .table .now) (l .table) u (l .inv .1 .1 .1) e)))
 
 same-length : tie.Need-same-length Inv-loop μ-loop
 same-length c = search needs
@@ -47,7 +78,7 @@ returns : tie.Need-returns Inv-loop μ-loop
 returns c = let l = c .before .loop in
     let a = c .before .before .args in
     let e : l .p ≡ a .l .places = omega arith in
-    l .inv .1 .1 .1 ∙ ap (λ (m : ℕ). placesOf (a .l) (a .w) (a .v) (a .edges) (a .count) (a .n) m (a .table .now)) e
+    l .inv .1 .1 .1 ∙ ap (λ (m : ℕ). placesOf (a .l) (a .w) (a .t4) (a .edges) (a .count) (a .n) m (a .table .now)) e
 
 pub row-spec : {M : Type 1} → statement M
 row-spec =
@@ -56,6 +87,10 @@ row-spec =
     Inv-loop
     μ-loop
     loop-holds
+    mul-entered
+    element-copy-out-entered
+    mul-staying
+    element-copy-out-staying
     place-requires
     add-p
     loop-less

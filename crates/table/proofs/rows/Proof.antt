@@ -11,14 +11,14 @@ use Rattle.table.proofs.rows.Statement.{statement}
 use Rattle.table.proofs.rows.Tie as tie
 
 abbrev Inv-loop : tie.InvT-loop
-Inv-loop table₀ l w v edges count n₀ table n =
+Inv-loop table₀ l w v edges count links n₀ table n =
     (n ≤ l .high) × ((length table ≡ length table₀) × ((Bounded table 0 (n * l .row)) × (rowsOf l w v edges count n table ≡ rowsOf l w v edges count (l .high) table₀)))
 
 abbrev μ-loop : tie.MeasureT-loop
-μ-loop table₀ l w v edges count n₀ table n = n
+μ-loop table₀ l w v edges count links n₀ table n = n
 
 loop-holds : tie.Need-loop-holds Inv-loop μ-loop
-loop-holds c = (omega arith, (refl, (c .pre .1 .bounded, refl)))
+loop-holds c = (omega arith, (refl, (c .pre .2 .bounded, refl)))
 
 sub-n : tie.Need-sub-n Inv-loop μ-loop
 sub-n c = omega arith
@@ -26,7 +26,7 @@ sub-n c = omega arith
 advance-requires : tie.Need-advance-requires Inv-loop μ-loop
 advance-requires c κs = let st = c .before .before .before in
     let l = c .before .before .loop in
-    (st .pre .0, rows-ready (st .args .l) (l .table) (l .n) (rw (l .inv .1 .0) (st .pre .1 .inside)) (c .before .loop-test .taken) (l .inv .0) (l .inv .1 .1 .0))
+    (st .pre .0, st .pre .1, rows-ready (st .args .l) (l .table) (l .n) (rw (l .inv .1 .0) (st .pre .2 .inside)) (c .before .loop-test .taken) (l .inv .0) (l .inv .1 .1 .0))
 
 loop-less : tie.Need-loop-less Inv-loop μ-loop
 loop-less c = omega arith

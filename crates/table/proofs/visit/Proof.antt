@@ -1,4 +1,4 @@
--- `visit` looks at one cell, and moves what it holds.
+-- `visit` looks at one cell; what it holds stays, and is told to be sent on.
 use Prim.Native.Nat.{_+_}
 use native.Mathlib.Omega.{arith}
 use mathlib.Core.Path.{_≡_}
@@ -12,7 +12,8 @@ use mir.Val.{toZ, ofZ}
 use mir.Facts.{toZ-ofZ}
 use Rattle.weighting.specs.Cell.{mark}
 use Rattle.weighting.specs.Weightings.{weightingOf}
-use Rattle.table.proofs.Steps.{sized-in, cell-in, grown-fits, passing-moving, visit-is, visit-no}
+use Rattle.cells.proofs.Digits.{ticked-within}
+use Rattle.table.proofs.Steps.{sized-in, cell-in, grown-fits, next-in, passing-moving, stay-is, stay-no, sent-is, sent-no}
 use Rattle.table.proofs.visit.Statement.{statement}
 use Rattle.table.proofs.visit.Tie as tie
 
@@ -40,24 +41,37 @@ combine-requires c κs = let st = c .before .before .before in
     let m : ltZ mark v ≡ true = rw p at (c .before .if1 .taken) in
     rw (p, q) (grown-fits (a .w) v (a .gain) (sized-in (st .pre .0 .bounded .at (a .k) (st .pre .2)) m) (sized-in (st .pre .0 .gain) (st .pre .1)))
 
-spread-requires : tie.Need-spread-requires
-spread-requires c κs = let st = c .before .before .before .before .before in
-    (passing-moving (st .args .clocks) _ (st .pre .0) (c .before .before .tick-clocks .ensures), st .pre .0 .edges, st .pre .0 .place)
+cast-stay : tie.Need-cast-stay
+cast-stay c = search needs
+
+stay-requires : tie.Need-stay-requires
+stay-requires c κs = search needs
+
+add-block-at : tie.Need-add-block-at
+add-block-at c = search needs
+
+block-at-requires : tie.Need-block-at-requires
+block-at-requires c κs = search needs
+
+turn-requires : tie.Need-turn-requires
+turn-requires c κs = let st = c .before .before .before .before .before .before .before in
+    let m = passing-moving (c .before .before .before .before .tick-clocks .result) (st .pre .0) (rw (c .before .before .before .before .tick-clocks .ensures) (ticked-within (st .args .l) (st .args .clocks) (st .pre .0 .laid))) in
+    (m .laid, m .within, rw (c .before .block-at .ensures) (next-in 1 (st .args .p) m (omega arith) (st .pre .0 .place)))
 
 same-length : tie.Need-same-length
 same-length c = search needs
 
 returns : tie.Need-returns
-returns c = let st = c .before .before .before .before .before .before .before in
+returns c = let st = c .before .before .before .before .before .before .before .before .before in
     let a = st .args in
     let v = getD (a .table .now) (a .at + a .k) (pos 0) in
-    let p : toZ w64 (ofZ w64 v) ≡ v = toZ-ofZ {w = w64} {z = v} (record { sfits = c .before .before .before .before .before .before .v .given }) in
-    let m : ltZ mark v ≡ true = rw p at (c .before .before .before .before .before .if1 .taken) in
-    let x = c .before .before .before .combine .result in
+    let p : toZ w64 (ofZ w64 v) ≡ v = toZ-ofZ {w = w64} {z = v} (record { sfits = c .before .before .before .before .before .before .before .before .v .given }) in
+    let m : ltZ mark v ≡ true = rw p at (c .before .before .before .before .before .before .before .if1 .taken) in
+    let x = c .before .before .before .before .before .combine .result in
     let q = toZ-ofZ (st .fits .gain) in
-    let f : x ≡ weightingOf (a .w) .combine v (a .gain) = rw (p, q) at (c .before .before .before .combine .ensures) in
-    let k : toZ w64 (ofZ w64 x) ≡ x = toZ-ofZ {w = w64} {z = x} (record { sfits = c .before .before .before .combine .ok }) in
-    visit-is (a .l) (a .w) (a .edges) (a .count) (a .gain) (a .n) (a .p) (a .at) (a .k) (a .clocks) _ x (a .table .now) _ m (c .before .before .before .before .tick-clocks .ensures) f (rw k at (c .before .spread .ensures))
+    let f : x ≡ weightingOf (a .w) .combine v (a .gain) = rw (p, q) at (c .before .before .before .before .before .combine .ensures) in
+    let k : toZ w64 (ofZ w64 x) ≡ x = toZ-ofZ {w = w64} {z = x} (record { sfits = c .before .before .before .before .before .combine .ok }) in
+    (sent-is (a .l) (a .w) (a .gain) (a .first) (a .none) (a .clocks) v _ x _ m (c .before .before .before .before .before .before .tick-clocks .ensures) f k, stay-is (a .l) (a .w) (a .gain) (a .n) (a .p) (a .at) (a .k) (a .clocks) (a .table .now) _ x _ _ _ m (c .before .before .before .before .before .before .tick-clocks .ensures) f (c .before .before .before .before .stay .ensures) (c .before .before .before .block-at .ensures) (rw k at (c .before .turn .ensures)))
 
 returns-2 : tie.Need-returns-2
 returns-2 c = let st = c .before .before in
@@ -65,7 +79,7 @@ returns-2 c = let st = c .before .before in
     let v = getD (a .table .now) (a .at + a .k) (pos 0) in
     let p : toZ w64 (ofZ w64 v) ≡ v = toZ-ofZ {w = w64} {z = v} (record { sfits = c .before .v .given }) in
     let m : ltZ mark v ≡ false = rw p at (c .if1 .left) in
-    visit-no (a .l) (a .w) (a .edges) (a .count) (a .gain) (a .n) (a .p) (a .at) (a .k) (a .clocks) (a .table .now) m
+    (sent-no (a .l) (a .w) (a .gain) (a .first) (a .none) (a .clocks) v _ m p, stay-no (a .l) (a .w) (a .gain) (a .n) (a .p) (a .at) (a .k) (a .clocks) (a .table .now) m)
 
 pub visit-spec : {M : Type 1} → statement M
 visit-spec =
@@ -76,7 +90,11 @@ visit-spec =
     slice-copy-out-v
     tick-clocks-requires
     combine-requires
-    spread-requires
+    cast-stay
+    stay-requires
+    add-block-at
+    block-at-requires
+    turn-requires
     same-length
     returns
     returns-2)
