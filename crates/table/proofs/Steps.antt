@@ -66,8 +66,8 @@ pub moved-no : (l : Layout) (w : Weighing) (e : Edge) (to : ℕ) (cs : Clocks) (
 unfolding moved
 moved-no l w e to cs x t h = rw h
 
-pub reset-lt : (l : Layout) (e : Edge) (cs d : Clocks) (j : ℕ) → Laid l → Within (l .radices) cs → d ≡ afterResets e cs → j ≡ codeOf (l .radices) d → j < l .block
-reset-lt l e cs d j h i r q = rw (q, r) (coded l (afterResets e cs) h (reset-within (l .radices) e cs i) .whole)
+pub code-lt : (l : Layout) (d : Clocks) (j : ℕ) → Laid l → Within (l .radices) d → j ≡ codeOf (l .radices) d → j < l .block
+code-lt l d j h i q = rw q (coded l d h i .whole)
 
 pub grown-fits : (w : Weighing) (v g : ℤ) → natAbs v ≤ 2 ^ 60 → natAbs g ≤ 8000000 → SFits w64 (weightingOf w .combine v g)
 grown-fits w v g a b = combine-fits w v g (omega arith)
@@ -75,14 +75,11 @@ grown-fits w v g a b = combine-fits w v g (omega arith)
 -- ---- the edges out of a place
 
 -- a block of row n + 1 is in the table
-pub next-in : {t : List ℤ} {l : Layout} {n : ℕ} {cs : Clocks} (stage p : ℕ) → Moving t l n cs → stage ≤ 1 → p < l .places → blockAt l (n + 1) stage p + l .block ≤ length t
-next-in {t} {l} {n} stage p m st h =
+pub next-in : {t : List ℤ} {l : Layout} {n : ℕ} {cs : Clocks} {stage p to : ℕ} → Moving t l n cs → to ≡ blockAt l (n + 1) stage p → stage ≤ 1 → p < l .places → to + l .block ≤ length t
+next-in {t} {l} {n} {cs} {stage} {p} m e st h =
     let low = m .low in
     let b = block-in l (n + 1) stage p (record { laid = m .laid; low = omega arith; stages = st; place = h }) in
     omega (arith, m .inside)
-
-pub moving-kept : {b : ℕ} {t u : List ℤ} {l : Layout} {n : ℕ} {cs : Clocks} → Kept b t u → Moving t l n cs → Moving u l n cs
-moving-kept k m = record { laid = m .laid; low = m .low; inside = rw (k .long) (m .inside); within = m .within }
 
 pub leave-is : (l : Layout) (w : Weighing) (n p : ℕ) (cs : Clocks) (x : ℤ) (e : Edge) (t : List ℤ) → e .from ≡ p → moved l w e (blockAt l (n + 1) 0 (e .to)) cs x t ≡ leaveOf l w n p cs x e t
 unfolding leaveOf

@@ -18,7 +18,7 @@ block-at-requires c κs = search needs
 turn-requires : tie.Need-turn-requires
 turn-requires c κs = let st = c .before .before .before in
     let m = st .pre .0 in
-    (m .laid, m .within, rw (c .before .block-at .ensures) (next-in 0 (st .args .e .to) m (omega arith) (st .pre .1)))
+    (m .laid, m .within, next-in m (c .before .block-at .ensures) (omega arith) (st .pre .1))
 
 same-length : tie.Need-same-length
 same-length c = search needs

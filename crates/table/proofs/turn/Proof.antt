@@ -4,7 +4,7 @@ use mathlib.Core.Path.{sym, _∙_}
 use borrow.Author.Needs.{needs}
 use mir.Facts.{toZ-ofZ}
 use Rattle.cells.proofs.Digits.{reset-within}
-use Rattle.table.proofs.Steps.{reset-lt, moved-is, moved-no}
+use Rattle.table.proofs.Steps.{code-lt, moved-is, moved-no}
 use Rattle.table.proofs.turn.Statement.{statement}
 use Rattle.table.proofs.turn.Tie as tie
 
@@ -17,17 +17,23 @@ after-resets-requires c κs = search needs
 code-requires : tie.Need-code-requires
 code-requires c κs = let st = c .before .before .before in
     let a = st .args in
-    (st .pre .0, rw (c .after-resets .ensures) (reset-within (a .l .radices) (a .e) (a .clocks) (st .pre .1)))
+    let e = c .after-resets .ensures in
+    let w = reset-within (a .l .radices) (a .e) (a .clocks) (st .pre .1) in
+    (st .pre .0, search (needs, e, w))
 
 add-offer : tie.Need-add-offer
 add-offer c = let st = c .before .before .before .before .before in
-    let h = reset-lt (st .args .l) (st .args .e) (st .args .clocks) _ _ (st .pre .0) (st .pre .1) (c .before .before .after-resets .ensures) (c .before .code .ensures) in
+    let e = c .before .before .after-resets .ensures in
+    let w = reset-within (st .args .l .radices) (st .args .e) (st .args .clocks) (st .pre .1) in
+    let h = code-lt (st .args .l) _ _ (st .pre .0) (search (needs, e, w)) (c .before .code .ensures) in
     let r = st .pre .2 in
     omega (arith, st .good .0 .0)
 
 offer-requires : tie.Need-offer-requires
 offer-requires c κs = let st = c .before .before .before .before .before in
-    let h = reset-lt (st .args .l) (st .args .e) (st .args .clocks) _ _ (st .pre .0) (st .pre .1) (c .before .before .after-resets .ensures) (c .before .code .ensures) in
+    let e = c .before .before .after-resets .ensures in
+    let w = reset-within (st .args .l .radices) (st .args .e) (st .args .clocks) (st .pre .1) in
+    let h = code-lt (st .args .l) _ _ (st .pre .0) (search (needs, e, w)) (c .before .code .ensures) in
     let r = st .pre .2 in
     omega arith
 

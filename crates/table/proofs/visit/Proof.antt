@@ -56,7 +56,7 @@ block-at-requires c κs = search needs
 turn-requires : tie.Need-turn-requires
 turn-requires c κs = let st = c .before .before .before .before .before .before .before in
     let m = passing-moving (c .before .before .before .before .tick-clocks .result) (st .pre .0) (rw (c .before .before .before .before .tick-clocks .ensures) (ticked-within (st .args .l) (st .args .clocks) (st .pre .0 .laid))) in
-    (m .laid, m .within, rw (c .before .block-at .ensures) (next-in 1 (st .args .p) m (omega arith) (st .pre .0 .place)))
+    (m .laid, m .within, next-in m (c .before .block-at .ensures) (omega arith) (st .pre .0 .place))
 
 same-length : tie.Need-same-length
 same-length c = search needs
