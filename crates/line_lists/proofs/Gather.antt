@@ -58,12 +58,12 @@ module _ {A : Type 0} (f : Form A) (less : (b : Bytes) (a : A) (r : Bytes) → f
       go (got a r) h p = on a (readMany (f .read) n r) (h r) p
       go broken h p = let z : _≡_ {A = ℕ} 0 1 = cc in omega arith
 
-  many-end : (b : Bytes) → f .read b ≡ broken → many f .read b ≡ got [] b
+  pub many-end : (b : Bytes) → f .read b ≡ broken → many f .read b ≡ got [] b
   unfolding many readMany
   many-end [] e = refl
   many-end (c ∷ b) e = rw e refl
 
-  many-more : (b : Bytes) (a : A) (r : Bytes) → f .read b ≡ got a r → many f .read b ≡ giving (_∷_ a) (many f .read r)
+  pub many-more : (b : Bytes) (a : A) (r : Bytes) → f .read b ≡ got a r → many f .read b ≡ giving (_∷_ a) (many f .read r)
   unfolding many readMany
   many-more [] a r e = absurd (omega (arith, less [] a r e))
   many-more (c ∷ b) a r e = let l = less (c ∷ b) a r e in rw e (ap (giving (_∷_ a)) (fuel (length b) (length r) r (omega arith) (omega arith)))

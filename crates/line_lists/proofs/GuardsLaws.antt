@@ -40,8 +40,8 @@ module _ (clocks : ℕ) (few : clocks ≤ 255) where
   one-more : (xs : List Guard) (x : Guard) → add (gatheredGuards clocks xs) x ≡ gatheredGuards clocks (xs ++ (x ∷ []))
   unfolding addGuard gatheredGuards
   one-more xs x = λ i. record {
-    guards = kept-more noGuard heldGuard xs x i;
-    count = counted xs x i;
+    guards = kept-more 4 5 (omega arith) noGuard heldGuard xs x i;
+    count = counted 5 xs x i;
     inrange = all-more guardInRange heldGuard in-range-held xs x i;
     known = all-more (guardKnown clocks) heldGuard (known-held clocks few) xs x i;
   }

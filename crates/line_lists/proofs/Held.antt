@@ -1,4 +1,4 @@
--- Holding a number changes no judgement of it; and lists whose first four members are kept.
+-- Holding a number changes no judgement of it; and lists whose first members are kept.
 use Prim.Native.Nat.{ℕ, suc, _+_, _-_, _≤_, _<_, min}
 use native.Mathlib.Omega.{arith}
 use mathlib.Core.Path.{_≡_, refl, sym, ap, _∙_}
@@ -45,26 +45,26 @@ all-snoc : {A : Type 0} (p : A → Bool) (xs : List A) (x : A) → all p (xs ++ 
 all-snoc p [] x = and-true (p x)
 all-snoc p (y ∷ ys) x = ap (λ b. p y && b) (all-snoc p ys x) ∙ and-assoc (p y) (all p ys) (p x)
 
--- ---- the first four members of a list, in an array of four
+-- ---- the first members of a list, in an array of `size` slots, and their number, held at `most`
 
-module _ {A : Type 0} (u : A) where
-  kept : (xs : List A) (x : A) → cond (ltb (min 5 (length xs)) 4) (set (pad 4 u (take 4 xs)) (min 5 (length xs)) x) (pad 4 u (take 4 xs)) ≡ pad 4 u (take 4 (xs ++ (x ∷ [])))
-  kept xs x = by-test (ltb (length xs) 4)
+module _ {A : Type 0} (size most : ℕ) (room : size < most) (u : A) where
+  kept : (xs : List A) (x : A) → cond (ltb (min most (length xs)) size) (set (pad size u (take size xs)) (min most (length xs)) x) (pad size u (take size xs)) ≡ pad size u (take size (xs ++ (x ∷ [])))
+  kept xs x = by-test (ltb (length xs) size)
       (λ t.
-      let h = ltb-true (length xs) 4 t in
-      let m : min 5 (length xs) ≡ length xs = omega arith in
-      let l : length (xs ++ (x ∷ [])) ≤ 4 = rw (length-append xs (x ∷ [])) (omega arith) in
-      rw (m, t, take-all 4 xs (omega arith), take-all 4 (xs ++ (x ∷ [])) l) (sym (pad-snoc 4 u x xs h)))
+      let h = ltb-true (length xs) size t in
+      let m : min most (length xs) ≡ length xs = omega arith in
+      let l : length (xs ++ (x ∷ [])) ≤ size = rw (length-append xs (x ∷ [])) (omega arith) in
+      rw (m, t, take-all size xs (omega arith), take-all size (xs ++ (x ∷ [])) l) (sym (pad-snoc size u x xs h)))
       (λ t.
-      let h = ltb-false (length xs) 4 t in
-      rw (le-ltb (min 5 (length xs)) 4 (omega arith), take-append-le 4 xs (x ∷ []) h) refl)
+      let h = ltb-false (length xs) size t in
+      rw (le-ltb (min most (length xs)) size (omega arith), take-append-le size xs (x ∷ []) h) refl)
 
--- the same of what stands for each member
-pub kept-more : {A : Type 0} (u : A) (h : A → A) (xs : List A) (x : A) → cond (ltb (min 5 (length xs)) 4) (set (pad 4 u (take 4 (map h xs))) (min 5 (length xs)) (h x)) (pad 4 u (take 4 (map h xs))) ≡ pad 4 u (take 4 (map h (xs ++ (x ∷ []))))
-kept-more u h xs x = rw (map-append h xs (x ∷ []), ← length-map xs h) (kept u (map h xs) (h x))
+  -- the same of what stands for each member
+  pub kept-more : (h : A → A) (xs : List A) (x : A) → cond (ltb (min most (length xs)) size) (set (pad size u (take size (map h xs))) (min most (length xs)) (h x)) (pad size u (take size (map h xs))) ≡ pad size u (take size (map h (xs ++ (x ∷ []))))
+  kept-more h xs x = rw (map-append h xs (x ∷ []), ← length-map xs h) (kept (map h xs) (h x))
 
 pub all-more : {A : Type 0} (p : A → Bool) (h : A → A) → ((x : A) → p (h x) ≡ p x) → (xs : List A) (x : A) → all p xs && p (h x) ≡ all p (xs ++ (x ∷ []))
 all-more p h same xs x = rw (all-snoc p xs x, same x) refl
 
-pub counted : {A : Type 0} (xs : List A) (x : A) → min 5 (min 5 (length xs) + 1) ≡ min 5 (length (xs ++ (x ∷ [])))
-counted xs x = rw (length-append xs (x ∷ [])) (omega arith)
+pub counted : {A : Type 0} (most : ℕ) (xs : List A) (x : A) → min most (min most (length xs) + 1) ≡ min most (length (xs ++ (x ∷ [])))
+counted most xs x = rw (length-append xs (x ∷ [])) (omega arith)

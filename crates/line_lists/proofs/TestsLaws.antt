@@ -1,5 +1,6 @@
 -- Tests one by one, gathered, are the tests that stand there.
 use Prim.Native.Nat.{ℕ, _+_, _-_, _≤_, _<_}
+use native.Mathlib.Omega.{arith}
 use mathlib.Core.Path.{_≡_, refl, sym, ap, _∙_}
 use mathlib.Core.List.{List, [], _∷_, _++_}
 use mathlib.Core.Bool.{true, false}
@@ -39,8 +40,8 @@ module _ (channels : ℕ) (few : channels ≤ 255) where
   one-more : (xs : List Test) (x : Test) → add (gatheredTests channels xs) x ≡ gatheredTests channels (xs ++ (x ∷ []))
   unfolding addTest gatheredTests
   one-more xs x = λ i. record {
-    tests = kept-more noTest heldTest xs x i;
-    count = counted xs x i;
+    tests = kept-more 4 5 (omega arith) noTest heldTest xs x i;
+    count = counted 5 xs x i;
     inrange = all-more testInRange heldTest in-range-held xs x i;
     known = all-more (testKnown channels) heldTest (known-held channels few) xs x i;
   }

@@ -32,7 +32,7 @@ then-within w t at v n e = then-found w t at v n e .within
 pub integer-within : (t : Bytes) (at : ℕ) (v : ℤ) (n : ℕ) → integerread.the-variants.Value v n ≡ integerAt t at → n ≤ length t
 integer-within t at v n e = integer-found t at v n e .within
 
-held-fits : (z : ℤ) → SFits w32 (held z)
+pub held-fits : (z : ℤ) → SFits w32 (held z)
 held-fits (pos n) = record { sfits = omega arith }
 held-fits (negsuc n) = record { sfits = omega arith }
 

@@ -1,5 +1,5 @@
 -- Lines of a record text, and the whole of it, are read as they are written.
-use Prim.Native.Nat.{ℕ, _+_, _*_, _≤_, _<_}
+use Prim.Native.Nat.{_+_, _*_, _≤_, _<_}
 use mathlib.Core.Path.{_≡_, refl, sym, ap, _∙_}
 use mathlib.Core.Logic.{_↔_}
 use mathlib.Core.List.{List, [], _∷_, _++_, append-nil, append-assoc}
@@ -7,9 +7,8 @@ use mathlib.Core.Option.{some}
 use native.Mathlib.Omega.{arith}
 use lib.ListN.{length, length-append}
 use lib.IntN.{ℤ}
-use Rattle.pattern_text.specs.Bytes.{Bytes, bytes, Reading, got, broken}
-use Rattle.pattern_text.specs.Form.{strip, _▸_, _◂_, _⨾_, writeMany, many, mapped, number, integer}
-use Rattle.pattern_text.specs.Line.{whole}
+use Rattle.pattern_text.specs.Bytes.{Bytes, bytes, broken}
+use Rattle.pattern_text.specs.Form.{strip, _▸_, _◂_, _⨾_, writeMany, many, mapped}
 use Rattle.pattern_text.proofs.FormLaws.{Exact, Faithful, Any, NoDigit, Last, ▸-exact, ◂-exact, ◂-faithful, ⨾-exact, mapped-exact, many-exact, many-faithful, number-exact, integer-exact}
 use Rattle.pattern_text.proofs.LineLaws.{whole-inv}
 use Rattle.record_text.specs.Piece.{RawPiece, value, pieceLine}
@@ -26,7 +25,7 @@ unfolding value _▸_
 value-long v = omega arith
 
 -- what follows a duration or a value is no digit
-value-starts : (v : ℤ) (r : Bytes) → NoDigit (value .write v ++ r)
+pub value-starts : (v : ℤ) (r : Bytes) → NoDigit (value .write v ++ r)
 unfolding value _▸_
 value-starts v r = refl
 

@@ -1,22 +1,20 @@
 -- The claims, proved.
-use Prim.Native.Nat.{ℕ, _≤_, _<_}
-use mathlib.Core.Path.{_≡_, refl, sym, ap, ap₂, subst, _∙_}
-use mathlib.Core.Logic.{_↔_, _⊎_, inl, inr}
-use mathlib.Core.Bool.{Bool, true, false, cond}
+use Prim.Native.Nat.{ℕ, _≤_}
+use mathlib.Core.Path.{_≡_, refl, sym, ap, subst, _∙_}
+use mathlib.Core.Logic.{_⊎_, inl, inr}
 use mathlib.Core.Option.{Option, none, some}
-use mathlib.Core.List.{List, [], _∷_, _++_, map}
+use mathlib.Core.List.{List, [], _∷_}
 use native.Mathlib.Omega.{arith}
 use lib.Dec.{eqb, ltb}
-use lib.ListN.{length, take, drop}
+use lib.ListN.{length}
 use lib.Seq.{take-at, drop-at}
-use lib.IntN.{ℤ}
 use borrow.Author.Tests.{ltb-true, ltb-false, lt-ltb, le-ltb, eqb-true}
 use Rattle.pattern.specs.declared.Refusal.{Refusal}
 use Rattle.pattern.specs.declared.Refusal.the-variants.{TextTooLong, BrokenForm, BrokenRecord}
 use Rattle.pattern.specs.Refusal.{numberOf}
 use Rattle.pattern_text.specs.Bytes.{Bytes}
 use Rattle.pattern_text.proofs.Tools.{both, by-test}
-use Rattle.record.specs.Record.{Piece, piecesOf}
+use Rattle.record.specs.Record.{piecesOf}
 use Rattle.record_text.specs.Piece.{RawPiece, valuesIn}
 use Rattle.record_text.specs.Text.{renderRecord, readRecord, durationsOf, valuesOf, countsFit, piecesSound, piecesRefusal, recordRefusal}
 use Rattle.record_text.specs.Claims.{RecordsExact, Outcome, long, formless, unsound, sound, RefusalsExact, RefusalNumbers, pieceOf, LinesArePieces}

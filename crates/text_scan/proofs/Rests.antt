@@ -13,7 +13,7 @@ use Rattle.pattern_text.proofs.NumeralLaws.{numeral}
 use Rattle.text_scan.specs.declared.Found as found
 use Rattle.text_scan.specs.declared.Number as number
 use Rattle.text_scan.specs.declared.Integer as whole
-use Rattle.text_scan.specs.Scan.{endOf, placed, wordAt, heldNumberAt, cap, numberIn, numberAt, numberThen, numberThenAt, held, integerAt}
+use Rattle.text_scan.specs.Scan.{endOf, placed, wordAt, heldNumberAt, cap, numberIn, numberAt, numberThen, numberThenAt, held, integerIn, integerAt}
 use Rattle.text_scan.proofs.Position.{rest-at}
 
 -- what is left when something was read is the rest at a position
@@ -114,10 +114,16 @@ then-missing w t at e = no-number t (numberThen w (drop at t)) e
 integer-apart : Apart whole.the-variants.Value whole.the-variants.Broken
 integer-apart = record { inj = λ a b n m e. ((cc), (cc)); apart = λ a n e. let z : _≡_ {A = ℕ} 0 1 = cc in omega arith }
 
+pub integered : (t : Bytes) (x : Reading ℤ) (v : ℤ) (n : ℕ) → Rests t x → whole.the-variants.Value v n ≡ integerIn t x → Met held t x v n
+integered t x v n h e = met integer-apart held t x h v n e
+
+pub no-integer : (t : Bytes) (x : Reading ℤ) → whole.the-variants.Broken ≡ integerIn t x → x ≡ broken
+no-integer t x e = unmet integer-apart held t x e
+
 pub integer-found : (t : Bytes) (at : ℕ) (v : ℤ) (n : ℕ) → whole.the-variants.Value v n ≡ integerAt t at → Met held t (integer .read (drop at t)) v n
 unfolding integerAt
-integer-found t at v n e = met integer-apart held t (integer .read (drop at t)) (rests-form integer-exact t at) v n e
+integer-found t at v n e = integered t (integer .read (drop at t)) v n (rests-form integer-exact t at) e
 
 pub integer-missing : (t : Bytes) (at : ℕ) → whole.the-variants.Broken ≡ integerAt t at → integer .read (drop at t) ≡ broken
 unfolding integerAt
-integer-missing t at e = unmet integer-apart held t (integer .read (drop at t)) e
+integer-missing t at e = no-integer t (integer .read (drop at t)) e
