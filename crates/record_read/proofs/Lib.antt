@@ -1,0 +1,5 @@
+-- Laws: reading a record's text.
+pub mod ValuesLaws
+pub mod LineLaws
+pub mod Walking
+pub mod Theorems

@@ -1,0 +1,4 @@
+-- Definitions: reading a record's text.
+pub mod Line
+pub mod Check
+pub mod Claims
