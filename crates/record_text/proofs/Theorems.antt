@@ -2,6 +2,7 @@
 use Prim.Native.Nat.{ℕ, _≤_}
 use mathlib.Core.Path.{_≡_, refl, sym, ap, subst, _∙_}
 use mathlib.Core.Logic.{_⊎_, inl, inr}
+use mathlib.Core.Bool.{Bool, cond}
 use mathlib.Core.Option.{Option, none, some}
 use mathlib.Core.List.{List, [], _∷_}
 use native.Mathlib.Omega.{arith}
@@ -39,7 +40,7 @@ formless-read t h = go (readRecord t) refl
 module _ (channels : ℕ) (t : Bytes) where
   refusal : (o : Option Refusal) → Outcome channels t o → recordRefusal channels t ≡ o
   unfolding recordRefusal
-  refusal o (long h) = rw (lt-ltb 16_384 (length t) h) refl
+  refusal o (long h) = ap (λ (b : Bool). cond b (some TextTooLong) (piecesRefusal channels (readRecord t))) (lt-ltb 16_384 (length t) h)
   refusal o (formless m h) = rw (le-ltb 16_384 (length t) m, formless-read t h) refl
   refusal o (unsound rs m e h) = rw (le-ltb 16_384 (length t) m, records t rs .1 e, h) refl
   refusal o (sound rs m e h) = rw (le-ltb 16_384 (length t) m, records t rs .1 e, h) refl
