@@ -116,10 +116,10 @@ fn leave(table: &mut [i64], l: Layout, w: Weighing, e: Edge, n: usize, clocks: [
 }
 
 // What a visited cell sends along the edges out of its place: its clocks and its worth a tick later, from this edge on.
-pub struct Sent {
-    pub first: usize,
-    pub clocks: [u32; 4],
-    pub worth: i64,
+struct Sent {
+    first: usize,
+    clocks: [u32; 4],
+    worth: i64,
 }
 
 // Cell k of the block at `at`, which has these clocks, looked at once. A worth stays in p, and is sent along the edges
