@@ -5,7 +5,7 @@ use native.Mathlib.Numerals.{add-one}
 use native.Mathlib.Nat.{mul-le-mul-right, suc-mul, mul-zero, zero-add, div-add-mod', mod-lt, div-lt-iff-lt-mul}
 use mathlib.Core.Path.{_≡_, refl, sym, ap, _∙_}
 use mathlib.Core.Bool.{Bool, true, false, cond}
-use mathlib.Core.List.{List, []}
+use mathlib.Core.List.{List}
 use mathlib.Core.Logic.{inl, inr}
 use borrow.Author.Tests.{eq-eqb, ne-eqb}
 use lib.ListN.{length, getD, set}
@@ -22,7 +22,7 @@ use Rattle.pattern.specs.Clocks.{Clocks, guardsHold, afterResets}
 use Rattle.cells.specs.declared.Layout.{Layout}
 use Rattle.cells.specs.Layout.{Laid, cellsIn}
 use Rattle.cells.specs.Index.{codeOf, ticked, Within, blockAt}
-use Rattle.cells.proofs.Digits.{ticked-within, reset-within, coded, block-some}
+use Rattle.cells.proofs.Digits.{ticked-within, coded, block-some}
 use Rattle.cells.proofs.Blocks.{row-next, row-fits, block-low, block-in}
 use Rattle.table.specs.declared.View.{View}
 use Rattle.table.specs.declared.Sent.{Sent}

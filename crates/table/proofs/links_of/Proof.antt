@@ -2,7 +2,6 @@
 use Prim.Native.Nat.{_-_, _≤_}
 use native.Mathlib.Omega.{arith}
 use mathlib.Core.Path.{_≡_, refl}
-use borrow.Author.Needs.{needs}
 use lib.ListN.{replicate, length-replicate, getD-replicate}
 use Rattle.table.proofs.Links.{LinkedFrom, links-none, links-more, links-all}
 use Rattle.table.proofs.links_of.Statement.{statement}

@@ -1,5 +1,4 @@
 -- `place` moves the cells just entered and then those staying; the row that it reads lies before the row that it writes.
-use native.Mathlib.Omega.{arith}
 use borrow.Author.Needs.{needs}
 use mir.Facts.{toZ-ofZ}
 use Rattle.table.proofs.Steps.{place-first, place-second, place-moved}
