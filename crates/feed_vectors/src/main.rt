@@ -1,11 +1,12 @@
-// Openings and feeds, executed. What each line must say was worked out by hand from document 01; the comments have the
-// working. A line has the answer, the reports and the state after the call; tables are shown by their occupied cells.
+// Openings and feeds, executed, each with the state lent by `&mut`. What each line must say was worked out by hand from
+// document 01; the comments have the working. A line has the answer, the reports and the state after the call; tables are
+// shown by their occupied cells.
 mod lines;
 mod numbers;
 mod patterns;
 
-use feed::feed;
-use feed::open;
+use lent_state::feed_through;
+use lent_state::open_through;
 use lines::put_answer;
 use lines::put_reports;
 use lines::put_state;
@@ -29,7 +30,7 @@ fn used() -> State {
 }
 
 fn opened(label: &[u8], p: Pattern, first: &mut [i64], second: &mut [i64]) -> State {
-    let after = open(used(), p, first, second);
+    let after = open_through(used(), p, first, second);
     let answer = after.answer;
     let state = after.state;
     io::write_all(1, label);
@@ -51,7 +52,7 @@ fn fed_into(
     scores: &mut [i64],
     lengths: &mut [u32],
 ) -> State {
-    let after = feed(s, p, first, second, duration, values, scores, lengths);
+    let after = feed_through(s, p, first, second, duration, values, scores, lengths);
     let answer = after.answer;
     let state = after.state;
     io::write_all(1, label);
@@ -160,7 +161,7 @@ fn one_tick(s: State, p: Pattern, first: &mut [i64], second: &mut [i64], value: 
     let mut scores: [i64; 1] = [77; 1];
     let mut lengths: [u32; 1] = [77; 1];
     let values: [i32; 1] = [value];
-    let after = feed(s, p, first, second, 1, &values, &mut scores, &mut lengths);
+    let after = feed_through(s, p, first, second, 1, &values, &mut scores, &mut lengths);
     put_reports(&scores, &lengths);
     after.state
 }
@@ -170,7 +171,7 @@ fn two_ticks(s: State, p: Pattern, first: &mut [i64], second: &mut [i64], value:
     let mut scores: [i64; 2] = [77; 2];
     let mut lengths: [u32; 2] = [77; 2];
     let values: [i32; 1] = [value];
-    let after = feed(s, p, first, second, 2, &values, &mut scores, &mut lengths);
+    let after = feed_through(s, p, first, second, 2, &values, &mut scores, &mut lengths);
     put_reports(&scores, &lengths);
     after.state
 }
@@ -201,7 +202,7 @@ fn cut(
     ten_whole: bool,
     forty_whole: bool,
 ) {
-    let none = open(used(), p, first, second);
+    let none = open_through(used(), p, first, second);
     let s = none.state;
     io::write_all(1, label);
     let half = piece(s, p, first, second, 10, ten_whole);
