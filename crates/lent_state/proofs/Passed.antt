@@ -1,10 +1,14 @@
--- What a walk by hand needs of the parameters that the body passes on, as they came, to one callee, and of the locals at the end. It says nothing of the crate, and can be copied as it stands.
--- Of a parameter that was passed on the walk has, at exit, exactly what the callee's contract says of its last value: nothing, of plain data and of a `&`; `finally` and the length, of a `&mut [T]`.
--- So the callee's `lasts` is what is owed at exit, whatever the parameters are, and neither of the two is taken apart.
---     passed       such a `Stay` (`Denote/Triple/Walked.antt`).        passed-goes      the law for it
---     all-passed, all-passed-go        for a list of parameters.        rest        a list of parameters without its first
---     gone n       the local whose cell is entry n of the context, with what frees it at n + 1, is freed: `forget`, `move` and `free1` in one
--- The laws and `gone` take `Given`.
+-- What the walks by hand share: parameters that a body passes on, as they came, to one callee; the facts that a contract with
+-- several `ensures` owes at exit; the locals at the end. It says nothing of the crate.
+-- Of a parameter that was passed on the walk has, at exit, exactly what the callee's contract says of its last value: nothing,
+-- of plain data and of a `&`; `finally` and the length, of a `&mut [T]`. So the callee's `lasts` is what is owed at exit,
+-- whatever the parameters are, and neither of the two is taken apart.
+--     passed, all-passed            what is had of such a parameter at exit; of a list of them.
+--     passed-goes, all-passed-go    the law that a walk owes of it.
+--     rest                          a list of parameters without its first
+--     told, told-first              one `ensures`; one before the others, which are joined to it
+--     ends-telling                  how a walk ends: `ends-at`, with the `ensures` shown apart from what is owned
+--     gone n                        the local whose cell is entry n of the context, with what frees it at n + 1, is freed
 use mathlib.Core.Path.{_≡_, subst}
 use Prim.Native.Nat.{ℕ, zero}
 use mathlib.Core.List.{List, [], _∷_}

@@ -37,7 +37,7 @@ use denote.Struct.Laws as LL
 use denote.Enum.Laws as EE
 use denote.Triple.Statement.{Contract, Triple}
 use denote.Triple.Call.{calls-at}
-use denote.Triple.Clauses.{ensured, lasts, Lasts}
+use denote.Triple.Clauses.{ensured, lasts, Lasts, atExit}
 use denote.Triple.Entry.{alive, onEntry}
 use denote.Triple.Spec.{Meets, tripleOf}
 use denote.Triple.Table.{entered, cited}
@@ -106,15 +106,36 @@ module _ {M : Type 1} (𝓤 : URA M) (H : Heap 𝓤) (A : Atoms 𝓤) (W : Given
   abbrev Toks : Item 𝓤
   Toks = raw (alive 𝓤 H A core.signature κs qs)
 
-  abbrev Post : Val → SProp 𝓤
-  Post = walkOf 𝓤 H A lent.ended stayed (lent.clauses 𝓤 H A at-mem run) .post (((κ, κs), (q, qs), tt, x, (vptr b o ∷ [], vals)), tt)
+  abbrev Host : Contract 𝓤
+  Host = walkOf 𝓤 H A lent.ended stayed (lent.clauses 𝓤 H A at-mem run)
 
-  -- what the core says of what it returned and of the last lists is what `open` owes
-  exits : (r : After) (ws : Lasts core.ended κs (h, a)) → r ≡ openedOf p t u h → ws .1 .1 .0 ≡ openFirst p t u → ws .1 .1 .1 .0 ≡ openSecond p t u → Is E.the-row (r .answer) (EE.val E.the-type E′.the-laws (r .answer) ∷ [])
+  abbrev from-host : Host .Ghost
+  from-host = (((κ, κs), (q, qs), tt, x, (vptr b o ∷ [], vals)), tt)
+
+  abbrev Post : Val → SProp 𝓤
+  Post = Host .post from-host
+
+  -- what the core says, of what it returned and of the last lists
+  abbrev Said : After → Lasts core.ended κs (h, a) → Item 𝓤
+  Said r ws =
+      raw (fact 𝓤 (r ≡ openedOf p t u h)) ⊛
+      raw (fact 𝓤 (ws .1 .1 .0 ≡ openFirst p t u)) ⊛
+      raw (fact 𝓤 (ws .1 .1 .1 .0 ≡ openSecond p t u))
+
+  -- it is what `open` owes of the answer, the state and each slice
+  promised : (r : After) (ws : Lasts core.ended κs (h, a)) → r ≡ openedOf p t u h → ws .1 .1 .0 ≡ openFirst p t u → ws .1 .1 .1 .0 ≡ openSecond p t u
+      → ent 𝓤 (emp 𝓤) (lent.clauses 𝓤 H A at-mem run (κ, κs) x .ensures tt (r .answer) (atExit lent.ended (κ, κs) x (r .state, ws .1)))
+  promised r ws e₀ e₁ e₂ =
+      told-first 𝓤 (ap (λ (s : After). s .answer) e₀)
+      (told-first 𝓤 (ap (λ (s : After). s .state) e₀)
+      (told-first 𝓤 e₁
+      (told 𝓤 e₂)))
+
+  exits : (r : After) (ws : Lasts core.ended κs (h, a)) → ent 𝓤 (emp 𝓤) (lent.clauses 𝓤 H A at-mem run (κ, κs) x .ensures tt (r .answer) (atExit lent.ended (κ, κs) x (r .state, ws .1))) → Is E.the-row (r .answer) (EE.val E.the-type E′.the-laws (r .answer) ∷ [])
       → ent 𝓤 (sep 𝓤 (A .obs γ (S.the-row .coded .code (r .state))) (sep 𝓤 (A .bor κ (Body (mem S.the-row) b o γ)) (sep 𝓤 (A .lft κ q) (sep 𝓤 (sem 𝓤 H A (lasts core.ended κs (h, a) ws)) (alive 𝓤 H A core.signature κs qs))))) (Post (EE.val E.the-type E′.the-laws (r .answer)))
-  exits r ws e₀ e₁ e₂ fits =
+  exits r ws owes fits =
       qed W (‵ (fobs γ (S.the-row .coded .code (r .state))) ∷ ‵ (fbor κ (Body (mem S.the-row) b o γ)) ∷ ‵ (flft κ q) ∷ ‵ (lasts core.ended κs (h, a) ws) ∷ Toks ∷ []) ∵
-      suffices ! _ (ends-telling 𝓤 H A lent.ended stayed (lent.clauses 𝓤 H A at-mem run) W (((κ, κs), (q, qs), tt, x, (vptr b o ∷ [], vals)), tt) (EE.val E.the-type E′.the-laws (r .answer)) (r .answer) (r .state, ws .1) (tt, (tt, (tt, (tt, tt)))) (told-first 𝓤 (ap (λ (s : After). s .answer) e₀) (told-first 𝓤 (ap (λ (s : After). s .state) e₀) (told-first 𝓤 e₁ (told 𝓤 e₂))))) $
+      suffices ! _ (ends-telling 𝓤 H A lent.ended stayed (lent.clauses 𝓤 H A at-mem run) W from-host (EE.val E.the-type E′.the-laws (r .answer)) (r .answer) (r .state, ws .1) (tt, (tt, (tt, (tt, tt)))) owes) $
       move ! (2 ∷ 4 ∷ []) $ join ! $ frame ! $ move ! (2 ∷ []) $ fsplit ! $ drop ! $ move ! (1 ∷ 2 ∷ []) $
       feqI ! (List Val) (vptr b o ∷ []) (vptr b o ∷ []) refl $ fjoin3 ! $ fjoin ! $ owned ! E.the-row (Is E.the-row) (EE.makes E.the-type E′.the-plain 𝓤 H A) (r .answer) _ fits $ move ! (1 ∷ 0 ∷ []) $ done !
 
@@ -134,7 +155,11 @@ module _ {M : Type 1} (𝓤 : URA M) (H : Heap 𝓤) (A : Atoms 𝓤) (W : Given
         enter ! C Λ code.function (vptr b o ∷ only (vals .0) ∷ only (vals .1 .0) ∷ only (vals .1 .1 .0) ∷ []) _ $
         alloc1 ! (λ l₀. alloc1 ! (λ l₁. alloc1 ! (λ l₂. alloc1 ! (λ l₃. alloc1 ! (λ l₄. alloc1 ! (λ l₅. alloc1 ! (λ l₆. alloc1 ! (λ l₇. alloc1 ! (λ l₈. alloc1 ! (λ l₉. alloc1 ! (λ l₁₀. alloc1 ! (λ l₁₁. alloc0 ! $
         -- [_11 at 0; _10 at 2; …; _0 at 22; obs; the borrow; its token; what the rest owns; the rest's tokens]
-        params1 ! $ pass1 ! (init ! 20 refl (tt, tt)) $ pass1 ! (init ! 18 refl (LL.lawful P.the-type P′.the-laws 𝓤 H A W .typed (a .0) _ p₁ .0)) $ pass1 ! (init ! 16 refl (mut-slice-lawful 𝓤 H A W (named 1) (κs .0) i64 .typed (a .1 .0) _ p₂ .0)) $ pass1 ! (init ! 14 refl (mut-slice-lawful 𝓤 H A W (named 2) (κs .1 .0) i64 .typed (a .1 .1 .0) _ p₃ .0)) $ pass0 ! $
+        params1 ! $ pass1 ! (init ! 20 refl (tt, tt)) $
+        pass1 ! (init ! 18 refl (LL.lawful P.the-type P′.the-laws 𝓤 H A W .typed (a .0) _ p₁ .0)) $
+        pass1 ! (init ! 16 refl (mut-slice-lawful 𝓤 H A W (named 1) (κs .0) i64 .typed (a .1 .0) _ p₂ .0)) $
+        pass1 ! (init ! 14 refl (mut-slice-lawful 𝓤 H A W (named 2) (κs .1 .0) i64 .typed (a .1 .1 .0) _ p₃ .0)) $
+        pass0 ! $
         move ! (24 ∷ 25 ∷ 26 ∷ []) $ opens ! tt S.the-row {h = h} b o (λ vs. spelt ! S.the-row (Is S.the-row) (shows 𝓤 H A S.the-row) (LL.vals S.the-type S′.the-laws) (LL.tells S.the-type S′.the-laws) fullShare h vs b o $
         move ! (1 ∷ []) $ peeks ! S.the-row (Is S.the-row) (shows 𝓤 H A S.the-row) h hs (λ was. move ! (1 ∷ 0 ∷ []) $
         -- [the state's cell; what h owns; the open borrow; obs; auth; _11 at 5; _10 at 7; _9 at 9; _8 at 11; _7 at 13; _6 at 15; _5 at 17; _4 at 19; _3 at 21; _2 at 23; _1 at 25; _0 at 27; what the rest owns; the rest's tokens]
@@ -150,7 +175,7 @@ module _ {M : Type 1} (𝓤 : URA M) (H : Heap 𝓤) (A : Atoms 𝓤) (W : Given
         move ! (1 ∷ 29 ∷ []) $ fjoin ! $ move ! (29 ∷ 0 ∷ []) $ use2 W (raw (Core 𝓤 H A at-mem run .pre to-core)) goes-core $
         calls-at ! fm (Core 𝓤 H A at-mem run) known to-core (and-then ! (load ! (from ! (stop !)) (look ! 17 refl)) (and-then ! (load ! (from ! (stop !)) (look ! 23 refl)) (and-then ! (load ! (from ! (stop !)) (look ! 9 refl)) (and-then ! (load ! (from ! (stop !)) (look ! 5 refl)) (no-more !))))) (λ v.
         use1 W (later (some (λ (r : After). (Toks ⊛ ‵ (R.the-row .own r (v ∷ []))) ⊛ raw (ensured 𝓤 H A core.ended (core.clauses 𝓤 H A at-mem run) κs (h, a) tt r)))) (id⊢ 𝓤 _) $ await ! tt $ pick ! (λ r. split ! $ split ! $ move ! (2 ∷ []) $
-        use1 W (some (λ (ws : Lasts core.ended κs (h, a)). ‵ (lasts core.ended κs (h, a) ws) ⊛ (raw (fact 𝓤 (r ≡ openedOf p t u h)) ⊛ (raw (fact 𝓤 (ws .1 .1 .0 ≡ openFirst p t u)) ⊛ raw (fact 𝓤 (ws .1 .1 .1 .0 ≡ openSecond p t u)))))) (id⊢ 𝓤 _) $ pick ! (λ ws. split ! $ move ! (1 ∷ []) $
+        use1 W (some (λ (ws : Lasts core.ended κs (h, a)). ‵ (lasts core.ended κs (h, a) ws) ⊛ Said r ws)) (id⊢ 𝓤 _) $ pick ! (λ ws. split ! $ move ! (1 ∷ []) $
         split ! $ heard ! _ (λ e₀. split ! $ heard ! _ (λ e₁. heard ! _ (λ e₂.
         move ! (2 ∷ []) $ facts ! R.the-row (Is R.the-row) (shows 𝓤 H A R.the-row) r (v ∷ []) (λ is. let new = LL.owed R.the-type R′.the-laws r _ is in
         -- [the last values; the rest's tokens; the state's cell; the open borrow; obs; auth; _11 at 6; …; _0 at 28]. What the core returned lands in _6, and is written out field by field
@@ -163,7 +188,7 @@ module _ {M : Type 1} (𝓤 : URA M) (H : Heap 𝓤) (A : Atoms 𝓤) (W : Given
         owned ! S.the-row (Is S.the-row) (LL.makes S.the-type S′.the-plain 𝓤 H A) (r .state) _ (new .0) $ move ! (3 ∷ 0 ∷ 4 ∷ 5 ∷ 6 ∷ []) $ closes ! tt S.the-row (r .state) (LL.vals S.the-type S′.the-laws (r .state)) b o $
         -- [obs; the borrow; its token; the last values; the rest's tokens; _11 at 5; …; _0 at 27]
         returns ! (look ! 27 refl) $ gone ! 27 refl refl $ gone ! 25 refl refl $ gone ! 23 refl refl $ gone ! 21 refl refl $ gone ! 19 refl refl $ gone ! 17 refl refl $ gone ! 15 refl refl $ gone ! 13 refl refl $ gone ! 11 refl refl $ gone ! 9 refl refl $ gone ! 7 refl refl $ gone ! 5 refl refl $ free0 ! $
-        by ! (exits r ws e₀ e₁ e₂ (new .1 .0)))))))))))))))))))))))
+        by ! (exits r ws (promised r ws e₀ e₁ e₂) (new .1 .0)))))))))))))))))))))))
 
 module _ {M : Type 1} (𝓤 : URA M) (H : Heap 𝓤) (A : Atoms 𝓤) (W : Given 𝓤 H A) (at-mem : Memory → SProp 𝓤) (run : Routine → Fun 𝓤) where
   walks : (C : Calls 𝓤 H) (Λ : Loops 𝓤 H) → FmC 𝓤 H (W .laws) C → Triple 𝓤 (C #core) (Core 𝓤 H A at-mem run) → Walks 𝓤 H A lent.ended stayed (WpFn 𝓤 H C Λ code.function) (lent.clauses 𝓤 H A at-mem run)

@@ -37,7 +37,7 @@ use denote.Struct.Laws as LL
 use denote.Enum.Laws as EE
 use denote.Triple.Statement.{Contract, Triple}
 use denote.Triple.Call.{calls-at}
-use denote.Triple.Clauses.{ensured, lasts, Lasts}
+use denote.Triple.Clauses.{ensured, lasts, Lasts, atExit}
 use denote.Triple.End.{Fins, lastsOf}
 use denote.Triple.Entry.{alive, onEntry}
 use denote.Triple.Spec.{Meets, tripleOf}
@@ -108,17 +108,39 @@ module _ {M : Type 1} (𝓤 : URA M) (H : Heap 𝓤) (A : Atoms 𝓤) (W : Given
   abbrev Toks : Item 𝓤
   Toks = raw (alive 𝓤 H A through.signature κs qs)
 
+  abbrev Caller : Contract 𝓤
+  Caller = walkOf 𝓤 H A through.ended stayed (through.clauses 𝓤 H A at-mem run)
+
+  abbrev from-caller : Caller .Ghost
+  from-caller = ((κs, qs, tt, (h, a), (hs, vals)), tt)
+
   abbrev Post : Val → SProp 𝓤
-  Post = walkOf 𝓤 H A through.ended stayed (through.clauses 𝓤 H A at-mem run) .post ((κs, qs, tt, (h, a), (hs, vals)), tt)
+  Post = Caller .post from-caller
 
   abbrev Last : Type 0
   Last = Fins κs (rest (through.signature .params)) (through.ended .kept .1) a
 
-  exits : (s : State) (r : Answer) (ws : Last) → r ≡ openAnswer p t u → s ≡ openState p t u h → ws .1 .0 ≡ openFirst p t u → ws .1 .1 .0 ≡ openSecond p t u → Is R.the-row (both s r) (LL.vals R.the-type R′.the-laws (both s r))
+  -- what `open` says, of its answer, the state and the last lists
+  abbrev Said : Answer → State → Last → Item 𝓤
+  Said r s ws =
+      raw (fact 𝓤 (r ≡ openAnswer p t u)) ⊛
+      raw (fact 𝓤 (s ≡ openState p t u h)) ⊛
+      raw (fact 𝓤 (ws .1 .0 ≡ openFirst p t u)) ⊛
+      raw (fact 𝓤 (ws .1 .1 .0 ≡ openSecond p t u))
+
+  -- it is what `open_through` owes of what it returns and of each slice
+  promised : (r : Answer) (s : State) (ws : Last) → r ≡ openAnswer p t u → s ≡ openState p t u h → ws .1 .0 ≡ openFirst p t u → ws .1 .1 .0 ≡ openSecond p t u
+      → ent 𝓤 (emp 𝓤) (through.clauses 𝓤 H A at-mem run κs (h, a) .ensures tt (both s r) (atExit through.ended κs (h, a) (tt, ws)))
+  promised r s ws e₀ e₁ e₂ e₃ =
+      told-first 𝓤 (ap₂ both e₁ e₀)
+      (told-first 𝓤 e₂
+      (told 𝓤 e₃))
+
+  exits : (r : Answer) (s : State) (ws : Last) → ent 𝓤 (emp 𝓤) (through.clauses 𝓤 H A at-mem run κs (h, a) .ensures tt (both s r) (atExit through.ended κs (h, a) (tt, ws))) → Is R.the-row (both s r) (LL.vals R.the-type R′.the-laws (both s r))
       → ent 𝓤 (sep 𝓤 (sem 𝓤 H A (lastsOf κs (rest (through.signature .params)) (through.ended .kept .1) a ws)) (alive 𝓤 H A through.signature κs qs)) (Post (LL.val R.the-type R′.the-laws (both s r)))
-  exits s r ws e₀ e₁ e₂ e₃ is =
+  exits r s ws owes is =
       qed W (‵ (lastsOf κs (rest (through.signature .params)) (through.ended .kept .1) a ws) ∷ Toks ∷ []) ∵
-      suffices ! _ (ends-telling 𝓤 H A through.ended stayed (through.clauses 𝓤 H A at-mem run) W ((κs, qs, tt, (h, a), (hs, vals)), tt) (LL.val R.the-type R′.the-laws (both s r)) (both s r) (tt, ws) (tt, (tt, (tt, (tt, tt)))) (told-first 𝓤 (ap₂ both e₁ e₀) (told-first 𝓤 e₂ (told 𝓤 e₃)))) $
+      suffices ! _ (ends-telling 𝓤 H A through.ended stayed (through.clauses 𝓤 H A at-mem run) W from-caller (LL.val R.the-type R′.the-laws (both s r)) (both s r) (tt, ws) (tt, (tt, (tt, (tt, tt)))) owes) $
       move ! (1 ∷ []) $ frame ! $ nothing ! $ fjoin ! $ owned ! R.the-row (Is R.the-row) (LL.makes R.the-type R′.the-plain 𝓤 H A) (both s r) _ is $ move ! (1 ∷ 0 ∷ []) $ done !
 
   -- the call, with the local at l lent at the lifetime α under the name γ
@@ -141,7 +163,11 @@ module _ {M : Type 1} (𝓤 : URA M) (H : Heap 𝓤) (A : Atoms 𝓤) (W : Given
         enter ! C Λ code.function (only hs ∷ only (vals .0) ∷ only (vals .1 .0) ∷ only (vals .1 .1 .0) ∷ []) _ $
         alloc1 ! (λ l₀. alloc1 ! (λ l₁. alloc1 ! (λ l₂. alloc1 ! (λ l₃. alloc1 ! (λ l₄. alloc1 ! (λ l₅. alloc1 ! (λ l₆. alloc1 ! (λ l₇. alloc1 ! (λ l₈. alloc1 ! (λ l₉. alloc1 ! (λ l₁₀. alloc1 ! (λ l₁₁. alloc1 ! (λ l₁₂. alloc0 ! $
         -- [_12 at 0; _11 at 2; _10 at 4; _9 at 6; _8 at 8; _7 at 10; _6 at 12; _5 at 14; _4 at 16; _3 at 18; _2 at 20; _1 at 22; _0 at 24; what the rest owns; the rest's tokens]
-        params1 ! $ pass1 ! (init ! 22 refl (LL.lawful S.the-type S′.the-laws 𝓤 H A W .typed h _ p₀ .0)) $ pass1 ! (init ! 20 refl (LL.lawful P.the-type P′.the-laws 𝓤 H A W .typed (a .0) _ p₁ .0)) $ pass1 ! (init ! 18 refl (mut-slice-lawful 𝓤 H A W (named 0) (κs .0) i64 .typed (a .1 .0) _ p₂ .0)) $ pass1 ! (init ! 16 refl (mut-slice-lawful 𝓤 H A W (named 1) (κs .1 .0) i64 .typed (a .1 .1 .0) _ p₃ .0)) $ pass0 ! $
+        params1 ! $ pass1 ! (init ! 22 refl (LL.lawful S.the-type S′.the-laws 𝓤 H A W .typed h _ p₀ .0)) $
+        pass1 ! (init ! 20 refl (LL.lawful P.the-type P′.the-laws 𝓤 H A W .typed (a .0) _ p₁ .0)) $
+        pass1 ! (init ! 18 refl (mut-slice-lawful 𝓤 H A W (named 0) (κs .0) i64 .typed (a .1 .0) _ p₂ .0)) $
+        pass1 ! (init ! 16 refl (mut-slice-lawful 𝓤 H A W (named 1) (κs .1 .0) i64 .typed (a .1 .1 .0) _ p₃ .0)) $
+        pass0 ! $
         -- _5 = _1; _7 = &mut _5
         assigns ! (of-opd ! (load ! (from ! (stop !)) (look ! 22 refl))) (from ! (stop !)) (init ! 14 refl (LL.lawful S.the-type S′.the-laws 𝓤 H A W .typed h _ p₀ .0)) $
         assigns ! (addr ! (from ! (stop !))) (from ! (stop !)) (init ! 10 refl (tt, tt)) $
@@ -159,7 +185,7 @@ module _ {M : Type 1} (𝓤 : URA M) (H : Heap 𝓤) (A : Atoms 𝓤) (W : Given
         -- _6 = open(_7, _2, _9, _11)
         calls-at ! fm (Lent 𝓤 H A at-mem run) known (to-lent α l₅ γ) (and-then ! (load ! (from ! (stop !)) (look ! 12 refl)) (and-then ! (load ! (from ! (stop !)) (look ! 21 refl)) (and-then ! (load ! (from ! (stop !)) (look ! 8 refl)) (and-then ! (load ! (from ! (stop !)) (look ! 4 refl)) (no-more !))))) (λ v.
         use1 W (later (some (λ (r : Answer). ((‵ (flft (α ∷ []) fullShare) ⊛ Toks) ⊛ ‵ (E.the-row .own r (v ∷ []))) ⊛ raw (ensured 𝓤 H A lent.ended (lent.clauses 𝓤 H A at-mem run) (α ∷ [], κs) (x α l₅ γ) tt r)))) (id⊢ 𝓤 _) $ await ! tt $ pick ! (λ r. split ! $ split ! $ split ! $ move ! (3 ∷ []) $
-        use1 W (some (λ (ws : Lasts lent.ended (α ∷ [], κs) (x α l₅ γ)). ‵ (lasts lent.ended (α ∷ [], κs) (x α l₅ γ) ws) ⊛ (raw (fact 𝓤 (r ≡ openAnswer p t u)) ⊛ (raw (fact 𝓤 (ws .0 ≡ openState p t u h)) ⊛ (raw (fact 𝓤 (ws .1 .1 .0 ≡ openFirst p t u)) ⊛ raw (fact 𝓤 (ws .1 .1 .1 .0 ≡ openSecond p t u))))))) (id⊢ 𝓤 _) $ pick ! (λ ws. split ! $ move ! (1 ∷ []) $
+        use1 W (some (λ (ws : Lasts lent.ended (α ∷ [], κs) (x α l₅ γ)). ‵ (lasts lent.ended (α ∷ [], κs) (x α l₅ γ) ws) ⊛ Said r (ws .0) (ws .1))) (id⊢ 𝓤 _) $ pick ! (λ ws. split ! $ move ! (1 ∷ []) $
         split ! $ heard ! _ (λ e₀. split ! $ heard ! _ (λ e₁. split ! $ heard ! _ (λ e₂. heard ! _ (λ e₃. fsplit ! $
         -- [the state's last value; those of the rest; the new token; the rest's tokens; the answer; the lender's part; _12 at 6; …]. The lifetime is ended, and the local comes back
         move ! (2 ∷ []) $ lft-end ! tt $ move ! (0 ∷ 5 ∷ 1 ∷ []) $ use3 W (later (‵ (mem S.the-row .lies (ws .0) l₅ zero))) (ref-back 𝓤 H A W S.the-row (α ∷ []) γ (ws .0) l₅ zero) $ await ! tt $
@@ -172,7 +198,7 @@ module _ {M : Type 1} (𝓤 : URA M) (H : Heap 𝓤) (A : Atoms 𝓤) (W : Given
         assigns ! (agg ! (and-then ! (load ! (from ! (stop !)) (look ! 3 refl)) (and-then ! (load ! (from ! (stop !)) (look ! 15 refl)) (no-more !)))) (from ! (stop !)) (init ! 26 refl (LL.lawful R.the-type R′.the-laws 𝓤 H A W .typed (both (ws .0) r) _ got .0)) $
         move ! (0 ∷ 17 ∷ []) $ returns ! (look ! 26 refl) $
         gone ! 26 refl refl $ gone ! 24 refl refl $ gone ! 22 refl refl $ gone ! 20 refl refl $ gone ! 18 refl refl $ gone ! 0 refl refl $ gone ! 14 refl refl $ gone ! 12 refl refl $ gone ! 10 refl refl $ gone ! 8 refl refl $ gone ! 6 refl refl $ gone ! 4 refl refl $ gone ! 2 refl refl $ free0 ! $
-        by ! (exits (ws .0) r (ws .1) e₀ e₁ e₂ e₃ got)))))))))))))))))))))))))
+        by ! (exits r (ws .0) (ws .1) (promised r (ws .0) (ws .1) e₀ e₁ e₂ e₃) got)))))))))))))))))))))))))
 
 module _ {M : Type 1} (𝓤 : URA M) (H : Heap 𝓤) (A : Atoms 𝓤) (W : Given 𝓤 H A) (at-mem : Memory → SProp 𝓤) (run : Routine → Fun 𝓤) where
   walks : (C : Calls 𝓤 H) (Λ : Loops 𝓤 H) → FmC 𝓤 H (W .laws) C → Triple 𝓤 (C #lent) (Lent 𝓤 H A at-mem run) → Walks 𝓤 H A through.ended stayed (WpFn 𝓤 H C Λ code.function) (through.clauses 𝓤 H A at-mem run)
