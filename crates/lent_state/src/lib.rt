@@ -16,11 +16,11 @@ pub fn open(state: &mut State, p: Pattern, first: &mut [i64], second: &mut [i64]
     ensures { λ _. ⌜ now (first .exit) ≡ openFirst p (now (first .entry)) (now (second .entry)) ⌝ }
     ensures { λ _. ⌜ now (second .exit) ≡ openSecond p (now (first .entry)) (now (second .entry)) ⌝ }
 {
-    let s = *state;
-    let r = feed::open(s, p, first, second);
-    let n = r.state;
-    *state = n;
-    r.answer
+    let before = *state;
+    let after = feed::open(before, p, first, second);
+    let next = after.state;
+    *state = next;
+    after.answer
 }
 
 // Feeding a piece: 7, 12, 11, 8, 13, 14, 6; else a score and a length for each tick.
@@ -47,11 +47,11 @@ pub fn feed(
     ensures { λ _. ⌜ now (lengths .exit) ≡ feedLengths p (now (state .entry)) (now (first .entry)) (now (second .entry))
         (callOf duration (now (values .entry)) (now (scores .entry)) (now (lengths .entry))) ⌝ }
 {
-    let s = *state;
-    let r = feed::feed(s, p, first, second, duration, values, scores, lengths);
-    let n = r.state;
-    *state = n;
-    r.answer
+    let before = *state;
+    let after = feed::feed(before, p, first, second, duration, values, scores, lengths);
+    let next = after.state;
+    *state = next;
+    after.answer
 }
 
 // For callers in Rattle: the state by value, lent to `open` and handed back beside the answer.
@@ -60,9 +60,12 @@ pub fn open_through(s: State, p: Pattern, first: &mut [i64], second: &mut [i64])
     ensures { λ _. ⌜ now (first .exit) ≡ openFirst p (now (first .entry)) (now (second .entry)) ⌝ }
     ensures { λ _. ⌜ now (second .exit) ≡ openSecond p (now (first .entry)) (now (second .entry)) ⌝ }
 {
-    let mut t = s;
-    let answer = open(&mut t, p, first, second);
-    After { state: t, answer }
+    let mut lent = s;
+    let answer = open(&mut lent, p, first, second);
+    After {
+        state: lent,
+        answer: answer,
+    }
 }
 
 // The same of `feed`.
@@ -87,7 +90,19 @@ pub fn feed_through(
     ensures { λ _. ⌜ now (lengths .exit) ≡ feedLengths p s (now (first .entry)) (now (second .entry))
         (callOf duration (now (values .entry)) (now (scores .entry)) (now (lengths .entry))) ⌝ }
 {
-    let mut t = s;
-    let answer = feed(&mut t, p, first, second, duration, values, scores, lengths);
-    After { state: t, answer }
+    let mut lent = s;
+    let answer = feed(
+        &mut lent,
+        p,
+        first,
+        second,
+        duration,
+        values,
+        scores,
+        lengths,
+    );
+    After {
+        state: lent,
+        answer: answer,
+    }
 }
