@@ -94,7 +94,7 @@ module _ (p : Pattern) (sound : soundOf p ≡ true) (ds : List ℕ) (vs : List �
         let l = start-low p (p .channels) ds vs (i + 1) in
         omega arith
 
-    sample-fine : Fine p (sampleAt (p .channels) vs i)
+    pub sample-fine : Fine p (sampleAt (p .channels) vs i)
     unfolding sampleAt
     sample-fine =
         let k = parts (p .channels) ds vs fits in

@@ -1,0 +1,69 @@
+// Reads pattern.txt and record.txt in the current folder and prints how well the record followed the pattern. Everything
+// that decides is in `watch_steps`; here files are opened and read, and lines written.
+use libc::STDOUT_FILENO;
+use watch_steps::Watch;
+use watch_steps::is_done;
+use watch_steps::next;
+use watch_steps::start;
+ghost use mathlib.Core.Path.{_≡_};
+ghost use mathlib.Core.Bool.{false};
+ghost use Prim.Native.Nat.{_≤_, _<_};
+ghost use lib.ListN.{length};
+ghost use Rattle.io.specs.Counts.{Counts};
+ghost use Rattle.watch_steps.specs.Steps.{isDone, stepsLeft, Standing};
+
+// The bytes of a file, as many as the buffer takes; none if it cannot be opened.
+fn read_file(path: &[u8], buffer: &mut [u8]) -> usize
+    ensures { λ r. ⌜ Counts r (now (buffer .exit)) ⌝ }
+{
+    let fd = os::open_read(path);
+    if fd < 0 {
+        return 0;
+    }
+    let n = io::read_full(fd, buffer);
+    libc::close(fd);
+    n
+}
+
+// The next lines are made and written.
+fn show_some(text: &[u8], w: Watch, first: &mut [i64], second: &mut [i64], out: &mut [u8]) -> Watch
+    requires { ⌜ (Standing (now text) w (now first) (now second)) × (4096 ≤ length (now out))
+        × (isDone (w .stage) ≡ false) ⌝ }
+    ensures { λ r. ⌜ Standing (now (text .entry)) r (now (first .exit)) (now (second .exit)) ⌝ }
+    ensures { λ r. ⌜ stepsLeft (now (text .entry)) r < stepsLeft (now (text .entry)) w ⌝ }
+    ensures { λ _. ⌜ (length (now (first .exit)) ≡ length (now (first .entry)))
+        × (length (now (second .exit)) ≡ length (now (second .entry)))
+        × (length (now (out .exit)) ≡ length (now (out .entry))) ⌝ }
+{
+    let step = next(text, w, first, second, out);
+    let n = step.length;
+    io::write_all(STDOUT_FILENO, &out[..n]);
+    step.watch
+}
+
+// All lines.
+fn show_all(text: &[u8], w: Watch, first: &mut [i64], second: &mut [i64], out: &mut [u8])
+    requires { ⌜ (Standing (now text) w (now first) (now second)) × (4096 ≤ length (now out)) ⌝ }
+{
+    let mut now = w;
+    while !is_done(now) {
+        now = show_some(text, now, first, second, out);
+    }
+}
+
+fn show(pattern: &[u8], text: &[u8]) {
+    let mut first: [i64; 2048] = [0; 2048];
+    let mut second: [i64; 2048] = [0; 2048];
+    let mut out = io::buffer();
+    let w = start(pattern, text, &mut first, &mut second);
+    show_all(text, w, &mut first, &mut second, &mut out);
+}
+
+fn main() {
+    // one byte more than a text may have shows that it is too long
+    let mut pattern = [0u8; 8193];
+    let mut record = [0u8; 16385];
+    let n = read_file(b"pattern.txt", &mut pattern);
+    let m = read_file(b"record.txt", &mut record);
+    show(&pattern[..n], &record[..m]);
+}

@@ -1,0 +1,158 @@
+-- From both texts to the start.
+use Prim.Native.Nat.{ℕ, zero, suc, _+_, _-_, _≤_, _<_}
+use native.Mathlib.Omega.{arith}
+use mathlib.Core.Path.{_≡_, refl, sym, ap, subst, _∙_}
+use mathlib.Core.Logic.{_⊎_, inl, inr}
+use mathlib.Core.List.{List, [], _∷_, _++_}
+use mathlib.Core.Option.{Option, none, some, Option·none-ne-some}
+use mathlib.Core.Bool.{Bool, true, false, not, cond, _||_}
+use lib.Dec.{ltb}
+use lib.ListN.{length, take}
+use lib.IntN.{ℤ}
+use Rattle.pattern.specs.declared.Pattern.{Pattern}
+use Rattle.pattern.specs.declared.Refusal.{Refusal}
+use Rattle.pattern.specs.declared.Refusal.the-variants.{TextTooLong, BrokenForm, TableTooShort}
+use Rattle.pattern.specs.Sound.{soundOf}
+use Rattle.pattern.specs.Cells.{cellsNeeded}
+use Rattle.pattern_text.specs.Bytes.{Bytes}
+use Rattle.pattern_text.specs.Form.{many, writeMany, _◂_}
+use Rattle.pattern_text.specs.Text.{Answer, accepted, refused}
+use Rattle.pattern_read.specs.declared.Outcome.the-variants as outcome
+use Rattle.pattern_read.specs.declared.Outcome.the-variants.{Accepted}
+use Rattle.pattern_read.specs.Reading.{readingOf}
+use Rattle.record.specs.Record.{Book, bookOf, total, recordSound}
+use Rattle.record_text.specs.Piece.{RawPiece}
+use Rattle.record_text.specs.Text.{recordForm, renderRecord, readRecord, durationsOf, valuesOf, piecesRefusal, recordRefusal}
+use Rattle.record_read.specs.declared.Checked.the-variants as checked
+use Rattle.record_read.specs.declared.Checked.the-variants.{Sound}
+use Rattle.record_read.specs.Check.{checkedOf}
+use Rattle.monitor.specs.declared.State.{State}
+use Rattle.monitor.specs.Cells.{written}
+use Rattle.monitor.specs.State.{noTicks}
+use Rattle.monitor.specs.Open.{unlessRefused, tableTooShort, openRefusal, openState, openFirst, openSecond}
+use Rattle.best.specs.declared.Search.{Search}
+use Rattle.best.specs.Best.{bestRefusal, chosenOf}
+use Rattle.best.specs.Search.{chosenBy, Fit, SearchedTo, tableTo}
+use Rattle.best.proofs.Whole.{fit}
+use Rattle.watch_text.specs.Shown.{heading, rowsFrom, bestText, shownFor}
+use Rattle.watch_steps.specs.declared.Watch.{Watch}
+use Rattle.watch_steps.specs.declared.Stage.the-variants.{Refused, Heading}
+use Rattle.watch_steps.specs.Watch.{bookOfText, tablesRefusal, orCause, unlessCause, answeredWith}
+use Rattle.watch_steps.specs.Steps.{rowsDue, dueFor, Position, Underway, StandingAt, Standing, startAt, stageBy, openedWatch}
+use Rattle.watch_steps.proofs.Pieces.{book-is, record-sound}
+
+-- a text that is not refused is that of some pieces
+no-form : (a : Bool) → cond a (some TextTooLong) (some BrokenForm) ≡ none → ⊥
+no-form true e = Option·none-ne-some TextTooLong (sym e)
+no-form false e = Option·none-ne-some BrokenForm (sym e)
+
+pub pieces : (n : ℕ) (t : Bytes) → recordRefusal n t ≡ none → (rs : List RawPiece) × (readRecord t ≡ some rs)
+unfolding recordRefusal
+pieces n t e = of (readRecord t) refl
+  where
+    of : (o : Option (List RawPiece)) → readRecord t ≡ o → (rs : List RawPiece) × (readRecord t ≡ some rs)
+    of none f = absurd (no-form (ltb 16_384 (length t)) (ap (λ (q : Option (List RawPiece)). cond (ltb 16_384 (length t)) (some TextTooLong) (piecesRefusal n q)) (sym f) ∙ e))
+    of (some rs) f = (rs, f)
+
+-- what `check` answers, by the cause
+pub checked-sound : (o : Option Refusal) → Sound ≡ checkedOf o → o ≡ none
+checked-sound none e = refl
+checked-sound (some r) e = let z : _≡_ {A = ℕ} 0 1 = cc in absurd (omega arith)
+
+pub checked-refused : (o : Option Refusal) (r : Refusal) → checked.Refused r ≡ checkedOf o → o ≡ some r
+checked-refused none r e = let z : _≡_ {A = ℕ} 0 1 = cc in absurd (omega arith)
+checked-refused (some q) r e = cc
+
+-- what `read` answers
+pub read-accepted : (a : Answer) → Accepted ≡ readingOf a .outcome → a ≡ accepted (readingOf a .pattern)
+read-accepted (accepted p) e = refl
+read-accepted (refused r) e = let z : _≡_ {A = ℕ} 0 1 = cc in absurd (omega arith)
+
+pub read-refused : (a : Answer) (r : Refusal) → outcome.Refused r ≡ readingOf a .outcome → a ≡ refused r
+read-refused (accepted p) r e = let z : _≡_ {A = ℕ} 0 1 = cc in absurd (omega arith)
+read-refused (refused q) r e = let k : r ≡ q = cc in ap refused (sym k)
+
+twice : {A : Type 0} (x : Bool) (a b : A) → cond (x || x) a b ≡ cond x a b
+twice true a b = refl
+twice false a b = refl
+
+nothing-read : length (renderRecord []) ≡ 0
+unfolding renderRecord recordForm many writeMany
+nothing-read = refl
+
+module _ (p : Pattern) (sound : soundOf p ≡ true) (first second : List ℤ) (longFirst : length first ≡ 2048) (longSecond : length second ≡ 2048) where
+  -- tables of 2,048 cells
+  tables : openRefusal p (length first) (length second) ≡ tablesRefusal p
+  unfolding openRefusal
+  tables = rw (sound, longFirst, longSecond) (twice (ltb 2_048 (cellsNeeded p)) (some TableTooShort) none)
+
+  module _ (t : Bytes) (fits : recordRefusal (p .channels) t ≡ none) where
+    abbrev B : Book
+    B = bookOfText (p .channels) t
+
+    abbrev W : Watch
+    W = openedWatch p first second
+
+    whole : heading ++ rowsDue p B 0 ≡ shownFor p B
+    unfolding rowsDue shownFor
+    whole = let z : length B - 0 ≡ length B = omega arith in ap (λ (m : ℕ). heading ++ (rowsFrom p B 0 m ++ bestText (chosenOf p B))) z
+
+    pub opened-due : dueFor t W ≡ answeredWith (accepted p) t
+    opened-due = by (openRefusal p (length first) (length second)) refl
+      where
+        by : (o : Option Refusal) → openRefusal p (length first) (length second) ≡ o → dueFor t W ≡ answeredWith (accepted p) t
+        by none e = rw (fits, e, sym tables ∙ e) whole
+        by (some r) e = rw (fits, e, sym tables ∙ e)
+
+    -- nothing refused: the monitor stands before the first piece
+    module _ (e : openRefusal p (length first) (length second) ≡ none) where
+      abbrev rs : List RawPiece
+      rs = pieces (p .channels) t fits .0
+
+      reads : readRecord t ≡ some rs
+      reads = pieces (p .channels) t fits .1
+
+      none-given : bestRefusal p (durationsOf rs) (valuesOf rs) (length first) (length second) ≡ none
+      unfolding bestRefusal openRefusal
+      none-given = rw (record-sound (p .channels) t rs reads fits) e
+
+      opens : Fit p (durationsOf rs) (valuesOf rs) 0 (W .search) (openFirst p first second) (openSecond p first second)
+      unfolding chosenBy
+      opens = fit p (durationsOf rs) (valuesOf rs) first second none-given noTicks (W .search) refl refl
+
+      zero-ticks : W .search .state .ticks ≡ 0
+      zero-ticks = ap (λ (o : Option Refusal). unlessRefused o noTicks noTicks .ticks) e
+
+      no-total : total (durationsOf []) ≡ 0
+      unfolding durationsOf total
+      no-total = refl
+
+      from-zero : total (take 0 (durationsOf rs)) ≡ W .search .state .ticks
+      unfolding total
+      from-zero = sym zero-ticks
+
+      book : B ≡ bookOf (p .channels) (durationsOf rs) (valuesOf rs)
+      book = book-is (p .channels) t rs reads
+
+      under : Underway p t (W .cursor) (W .search) (openFirst p first second) (openSecond p first second)
+      under =
+          record {
+            sound = sound;
+            fits = fits;
+            position =
+                record { read = []; further = rs; reads = reads; at = sym nothing-read; ticks = let a = zero-ticks in let b = no-total in omega arith; now = inl refl };
+            searched = subst (λ (w : Book). SearchedTo p w (W .search .state .ticks) (W .search)) (sym book) (subst (λ (m : ℕ). SearchedTo p (bookOf (p .channels) (durationsOf rs) (valuesOf rs)) m (W .search)) from-zero (opens .searched));
+            firstLong = opens .firstLong;
+            secondLong = opens .secondLong;
+            firstHolds =
+                subst (λ (w : Book). openFirst p first second ≡ written p (tableTo p w (W .search .state .ticks)) (openFirst p first second)) (sym book)
+                (subst (λ (m : ℕ). openFirst p first second ≡ written p (tableTo p (bookOf (p .channels) (durationsOf rs) (valuesOf rs)) m) (openFirst p first second)) from-zero (opens .first));
+            secondHolds = opens .second;
+          }
+
+    pub opened-standing : Standing t W (openFirst p first second) (openSecond p first second)
+    opened-standing = by (openRefusal p (length first) (length second)) refl
+      where
+        by : (o : Option Refusal) → openRefusal p (length first) (length second) ≡ o → StandingAt (stageBy o) t W (openFirst p first second) (openSecond p first second)
+        by none e = under e
+        by (some r) e = tt

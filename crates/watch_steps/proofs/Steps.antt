@@ -1,0 +1,125 @@
+-- From what a step does to what it means: its bytes are the first of those due.
+use Prim.Native.Nat.{ℕ, zero, suc, _+_, _-_, _*_, _≤_, _<_, min}
+use native.Mathlib.Omega.{arith}
+use mathlib.Core.Path.{_≡_, refl, sym, ap, subst, _∙_}
+use mathlib.Core.List.{List, [], _∷_, _++_, append-nil}
+use lib.ListN.{length, take, getD}
+use lib.Seq.{take-all}
+use lib.IntN.{ℤ}
+use Rattle.pattern.specs.declared.Pattern.{Pattern}
+use Rattle.pattern_text.specs.Bytes.{Bytes}
+use Rattle.text_put.specs.Put.{Put}
+use Rattle.monitor.specs.Feed.{feedLengths}
+use Rattle.best.specs.declared.Search.{Search}
+use Rattle.best.specs.Best.{chosenOf}
+use Rattle.best.specs.Search.{chosenIn}
+use Rattle.best.proofs.Ends.{begins-inside}
+use Rattle.pattern.specs.declared.Refusal.{Refusal}
+use Rattle.watch_text.specs.Shown.{refusedText, heading, bestText}
+use Rattle.watch_steps.specs.declared.Stage.{Stage}
+use Rattle.watch_steps.specs.declared.Stage.the-variants.{Refused, Heading, Rows, Done}
+use Rattle.watch_steps.specs.declared.Cursor.{Cursor}
+use Rattle.watch_steps.specs.declared.Watch.{Watch}
+use Rattle.watch_steps.specs.declared.Step.{Step}
+use Rattle.watch_steps.specs.Watch.{bookOfText}
+use Rattle.watch_steps.specs.Steps.{rowsDue, dueAt, dueFor, stepsAt, stepsLeft, movedOn, chunk, Underway, Standing, StandingAt, Stepped, ChunkStepped, LineStepped}
+use Rattle.watch_steps.proofs.Chunks.{room, room-on, lengths-low, due-on, ticks-on, underway-on}
+use Rattle.watch_steps.proofs.Moved.{moved, moved-end, all-fed, last-due, last-choice}
+
+-- where there is room, all bytes stand at the front
+pub put-whole : (o o′ : Bytes) (n : ℕ) (xs : Bytes) → Put o o′ 0 n xs → length xs ≤ length o → (take n o′ ≡ xs) × (n ≤ length o′)
+put-whole o o′ n xs h l = (h .text ∙ take-all (length o) xs l, (let a = h .inside (omega arith) in let b = h .long in omega arith))
+
+-- a fixed line, after which other bytes are due
+pub line-stepped : (t : Bytes) (stage : Stage) (p : Pattern) (k : Cursor) (s : Search) (xs due : Bytes) (steps : ℕ) (first second : List ℤ) (o o′ : Bytes) (r : Step)
+    → LineStepped stage p k s xs o o′ r → 4096 ≤ length o
+    → StandingAt stage t (record { stage = stage; pattern = p; cursor = k; search = s }) first second
+    → due ≡ xs ++ dueAt stage p (bookOfText (p .channels) t) (s .state .ticks)
+    → stepsAt stage (bookOfText (p .channels) t) (s .state .ticks) < steps
+    → Stepped t due steps first second o′ r
+line-stepped t stage p k s xs due steps first second o o′ r h wide standing is fewer =
+    let e = h .watch in
+    let w = put-whole o o′ (r .length) xs (h .put) (let f = h .few in omega arith) in
+    record {
+      standing = subst (λ (q : Watch). Standing t q first second) (sym e) standing;
+      shown = is ∙ ap (λ (b : Bytes). b ++ dueAt stage p (bookOfText (p .channels) t) (s .state .ticks)) (sym (w .0)) ∙ ap (λ (q : Watch). take (r .length) o′ ++ dueFor t q) (sym e);
+      within = w .1;
+      fewer = subst (λ (q : Watch). stepsLeft t q < steps) (sym e) fewer;
+    }
+
+module _ (p : Pattern) (t : Bytes) (k : Cursor) (s : Search) (first second : List ℤ) (u : Underway p t k s first second) where
+  abbrev n : ℕ
+  n = s .state .ticks
+
+  abbrev B : List (List ℤ)
+  B = bookOfText (p .channels) t
+
+  -- ---- at the end of the text
+
+  pub begins : k .left ≡ 0 → length t ≤ k .at → s .choice .length ≤ s .choice .end
+  begins e h = begins-inside p (u .sound) B (s .choice .end) (s .choice .length) (s .choice .score) (last-choice p t k s first second u e h)
+
+  pub last-stepped : (o o′ : Bytes) (r : Step) → 4096 ≤ length o → k .left ≡ 0 → length t ≤ k .at → LineStepped Done p k s (bestText (chosenIn (s .choice))) o o′ r
+      → Stepped t (dueAt Rows p B n) (stepsAt Rows B n) first second o′ r
+  last-stepped o o′ r wide e h l =
+      line-stepped t Done p k s (bestText (chosenIn (s .choice))) (dueAt Rows p B n) (stepsAt Rows B n) first second o o′ r l wide tt
+      (last-due p t k s first second u e h ∙ ap bestText (sym (last-choice p t k s first second u e h)) ∙ sym (append-nil (bestText (chosenIn (s .choice)))))
+      (omega arith)
+
+  -- ---- a chunk
+
+  module _ (more : 0 < k .left) where
+    abbrev d : ℕ
+    d = min (k .left) 64
+
+    pub chunk-room : n + d ≤ 2147483647
+    chunk-room = room-on p t k s first second u more d (omega arith) (omega arith) (omega arith)
+
+    pub chunk-lengths : (i : ℕ) → i < d → getD (feedLengths p (s .state) first second (chunk p k)) i 0 ≤ n + i + 1
+    chunk-lengths = lengths-low p t k s first second u more d (omega arith) (omega arith) (omega arith)
+
+    pub chunk-stepped : (o o′ : Bytes) (r : Step) → 4096 ≤ length o → (first′ second′ : List ℤ) → ChunkStepped p k s first second o first′ second′ o′ r → Stepped t (dueAt Rows p B n) (stepsAt Rows B n) first′ second′ o′ r
+    chunk-stepped o o′ r wide first′ second′ h =
+        let q = r .watch .search in
+        let e = h .watch in
+        let w = put-whole o o′ (r .length) _ (h .put) (let f = h .few in omega arith) in
+        let ticks = ticks-on p t k s first second u more d (omega arith) (omega arith) (omega arith) q first′ second′ (h .state) (h .choice) (h .first) (h .second) in
+        let due = due-on p t k s first second u more d (omega arith) (omega arith) (omega arith) in
+        record {
+          standing =
+              subst (λ (x : Watch). Standing t x first′ second′) (sym e)
+              (underway-on p t k s first second u more d (omega arith) (omega arith) (omega arith) q first′ second′ (h .state) (h .choice) (h .first) (h .second));
+          shown =
+              due
+              ∙ ap (λ (b : Bytes). b ++ rowsDue p B (n + d)) (sym (w .0))
+              ∙ ap (λ (m : ℕ). take (r .length) o′ ++ rowsDue p B m) (sym ticks)
+              ∙ ap (λ (x : Watch). take (r .length) o′ ++ dueFor t x) (sym e);
+          within = w .1;
+          fewer =
+              subst (λ (x : Watch). stepsLeft t x < stepsAt Rows B n) (sym e)
+              (let a = room p t k s first second u in omega arith);
+        }
+
+-- ---- a step by its stage
+
+module _ (t : Bytes) (w : Watch) (first second : List ℤ) where
+  pub underway : w .stage ≡ Rows → Standing t w first second → Underway (w .pattern) t (w .cursor) (w .search) first second
+  underway e h = subst (λ (q : Stage). StandingAt q t w first second) e h
+
+  module _ (o o′ : Bytes) (r : Step) (wide : 4096 ≤ length o) where
+    pub next-refused : (cause : Refusal) → w .stage ≡ Refused cause → LineStepped Done (w .pattern) (w .cursor) (w .search) (refusedText cause) o o′ r
+        → Stepped t (dueFor t w) (stepsLeft t w) first second o′ r
+    next-refused cause e h =
+        line-stepped t Done (w .pattern) (w .cursor) (w .search) (refusedText cause) (dueFor t w) (stepsLeft t w) first second o o′ r h wide tt
+        (rw e (sym (append-nil (refusedText cause)))) (rw e (omega arith))
+
+    pub next-heading : w .stage ≡ Heading → Standing t w first second → LineStepped Rows (w .pattern) (w .cursor) (w .search) heading o o′ r
+        → Stepped t (dueFor t w) (stepsLeft t w) first second o′ r
+    next-heading e s h =
+        line-stepped t Rows (w .pattern) (w .cursor) (w .search) heading (dueFor t w) (stepsLeft t w) first second o o′ r h wide
+        (subst (λ (q : Stage). StandingAt q t w first second) e s) (rw e) (rw e (omega arith))
+
+  pub next-rows : (first′ second′ : List ℤ) (o′ : Bytes) (r : Step) → w .stage ≡ Rows
+      → Stepped t (dueAt Rows (w .pattern) (bookOfText (w .pattern .channels) t) (w .search .state .ticks)) (stepsAt Rows (bookOfText (w .pattern .channels) t) (w .search .state .ticks)) first′ second′ o′ r
+      → Stepped t (dueFor t w) (stepsLeft t w) first′ second′ o′ r
+  next-rows first′ second′ o′ r e h = rw e h

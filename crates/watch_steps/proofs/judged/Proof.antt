@@ -1,0 +1,66 @@
+-- The record is refused, or the monitor opened.
+use mathlib.Core.Path.{_≡_, refl, sym, ap, subst, _∙_}
+use mathlib.Core.Option.{none, some}
+use borrow.Author.Needs.{needs}
+use lib.ListN.{length}
+use Rattle.record_text.specs.Text.{recordRefusal}
+use Rattle.watch_steps.specs.declared.Watch.{Watch}
+use Rattle.watch_steps.specs.Steps.{dueFor, Standing}
+use Rattle.watch_steps.proofs.Opening.{checked-sound, checked-refused, opened-due, opened-standing}
+use Rattle.watch_steps.proofs.judged.Statement.{statement}
+use Rattle.watch_steps.proofs.judged.Tie as tie
+
+check-requires : tie.Need-check-requires
+check-requires c κs = search needs
+
+enum-told : tie.Need-enum-told
+enum-told c = search needs
+
+opened-requires : tie.Need-opened-requires
+opened-requires c κs = search needs
+
+enum-known-cause : tie.Need-enum-known-cause
+enum-known-cause c = search needs
+
+no-ticks-requires : tie.Need-no-ticks-requires
+no-ticks-requires c κs = search needs
+
+start-at-requires : tie.Need-start-at-requires
+start-at-requires c κs = search needs
+
+same-length : tie.Need-same-length
+same-length c = search needs
+
+same-length-2 : tie.Need-same-length-2
+same-length-2 c = search needs
+
+returns : tie.Need-returns
+returns c =
+    let st = c .before .before .before .before .before .before .before .before .before in
+    let a = st .args in
+    let e : recordRefusal (a .p .channels) (a .text .now) ≡ none = checked-sound _ (sym (c .before .before .before .before .before .enum-told .given .1) ∙ c .before .before .before .before .before .before .before .check .ensures) in
+    let o = c .before .before .opened .ensures in (
+      ap (dueFor (a .text .now)) (o .0) ∙ opened-due (a .p) (st .pre .0) (a .first .now) (a .second .now) (st .pre .1) (st .pre .2) (a .text .now) e,
+      rw (o .0, o .1 .0, o .1 .1) (opened-standing (a .p) (st .pre .0) (a .first .now) (a .second .now) (st .pre .1) (st .pre .2) (a .text .now) e),
+    )
+
+returns-2 : tie.Need-returns-2
+returns-2 c =
+    let a = c .before .before .before .before .before .before .before .args in
+    let e : recordRefusal (a .p .channels) (a .text .now) ≡ some _ = checked-refused _ _ (sym (c .before .before .before .cause .given .1) ∙ c .before .before .before .before .before .check .ensures) in
+    (rw (c .start-at .ensures, e), rw (c .start-at .ensures) tt)
+
+pub judged-spec : {M : Type 1} → statement M
+judged-spec =
+    tie.close
+    (tie.spec
+    check-requires
+    enum-told
+    opened-requires
+    enum-known-cause
+    no-ticks-requires
+    start-at-requires
+    same-length
+    same-length-2
+    returns
+    returns-2)

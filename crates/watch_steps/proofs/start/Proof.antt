@@ -1,0 +1,72 @@
+-- The pattern is refused, or the record judged.
+use mathlib.Core.Path.{_≡_, refl, sym, ap, subst, _∙_}
+use mathlib.Core.Bool.{true}
+use borrow.Author.Needs.{needs}
+use lib.ListN.{length}
+use Rattle.pattern.specs.declared.Pattern.{Pattern}
+use Rattle.pattern.specs.Sound.{soundOf}
+use Rattle.pattern_text.specs.Text.{Answer, accepted, refused, readOf}
+use Rattle.pattern_text.proofs.Theorems.{sound-means-read}
+use Rattle.pattern_read.specs.declared.PatternRead.{PatternRead}
+use Rattle.watch_steps.specs.Watch.{answeredWith}
+use Rattle.watch_steps.proofs.Opening.{read-accepted, read-refused}
+use Rattle.watch_steps.proofs.start.Statement.{statement}
+use Rattle.watch_steps.proofs.start.Tie as tie
+
+read-requires : tie.Need-read-requires
+read-requires c κs = search needs
+
+enum-told : tie.Need-enum-told
+enum-told c = search needs
+
+judged-requires : tie.Need-judged-requires
+judged-requires c κs =
+    let st = c .before .before .before .before .before .before .before .before in
+    let e = c .before .before .before .before .before .read .ensures in
+    let is = read-accepted (readOf (st .args .pattern .now)) (sym (c .before .before .enum-told .given .1) ∙ ap (λ (x : PatternRead). x .outcome) e) in
+    (subst (λ (q : Pattern). soundOf q ≡ true) (sym (ap (λ (x : PatternRead). x .pattern) e)) (sound-means-read _ .1 (st .args .pattern .now, is)), st .pre .0, st .pre .1)
+
+enum-known-outcome : tie.Need-enum-known-outcome
+enum-known-outcome c = search needs
+
+no-ticks-requires : tie.Need-no-ticks-requires
+no-ticks-requires c κs = search needs
+
+start-at-requires : tie.Need-start-at-requires
+start-at-requires c κs = search needs
+
+same-length : tie.Need-same-length
+same-length c = search needs
+
+same-length-2 : tie.Need-same-length-2
+same-length-2 c = search needs
+
+returns : tie.Need-returns
+returns c =
+    let st = c .before .before .before .before .before .before .before .before .before .before .before in
+    let e = c .before .before .before .before .before .before .before .before .read .ensures in
+    let is = read-accepted (readOf (st .args .pattern .now)) (sym (c .before .before .before .before .before .enum-told .given .1) ∙ ap (λ (x : PatternRead). x .outcome) e) in
+    let o = c .before .before .judged .ensures in
+    (o .0 ∙ ap (λ (q : Answer). answeredWith q (st .args .text .now)) (ap (λ (x : PatternRead). accepted (x .pattern)) e ∙ sym is), o .1)
+
+returns-2 : tie.Need-returns-2
+returns-2 c =
+    let st = c .before .before .before .before .before .before .before .before .before in
+    let e = c .before .before .before .before .before .before .read .ensures in
+    let is = read-refused (readOf (st .args .pattern .now)) _ (sym (c .before .before .before .outcome .given .1) ∙ ap (λ (x : PatternRead). x .outcome) e) in
+    (rw (c .start-at .ensures, is), rw (c .start-at .ensures) tt)
+
+pub start-spec : {M : Type 1} → statement M
+start-spec =
+    tie.close
+    (tie.spec
+    read-requires
+    enum-told
+    judged-requires
+    enum-known-outcome
+    no-ticks-requires
+    start-at-requires
+    same-length
+    same-length-2
+    returns
+    returns-2)
