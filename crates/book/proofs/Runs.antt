@@ -4,8 +4,8 @@ use native.Mathlib.Omega.{arith}
 use mathlib.Core.Path.{_≡_, refl, sym, ap, subst, _∙_}
 use mathlib.Core.Logic.{_↔_}
 use mathlib.Core.List.{List, [], _∷_, map, List·Memᴰ}
-use mathlib.Core.Option.{Option, none, some, Option·some-injective, Option·none-ne-some}
-use mathlib.Core.Bool.{Bool, true, false, cond, _&&_}
+use mathlib.Core.Option.{Option, none, some}
+use mathlib.Core.Bool.{Bool, true, false, _&&_}
 use borrow.Author.Tests.{eqb-true, leb-true, ltb-true, eq-eqb, le-leb, lt-ltb}
 use lib.Dec.{T, eqb, leb, ltb}
 use lib.ListN.{length, take, getD, length-take}
@@ -25,11 +25,13 @@ use Rattle.record.specs.Record.{Book}
 use Rattle.record.specs.Run as record-run
 use Rattle.record.specs.Run.{Step, canStep, goes, isRun, lengthOf}
 use Rattle.record.specs.Worth.{stayWorth, stayWorths, runWorth, priceOf}
+use Rattle.record.proofs.PriceLaws.{priced-parts}
 use Rattle.walks.specs.Runs as walk
 use Rattle.walks.specs.Runs.{Leg, Goes, later as after, total, Run}
 use Rattle.book.specs.Automaton.{automatonOf}
 use Rattle.book.specs.View.{viewOf}
-use Rattle.book.specs.Claims.{Priced, PricedAreRuns}
+use Rattle.book.specs.PricedRun.{PricedRun}
+use Rattle.book.specs.Claims.{PricedAreRuns}
 use Rattle.book.proofs.Members.{at-member, member-at}
 use Rattle.book.proofs.StayGains.{stay-together}
 
@@ -147,17 +149,6 @@ module _ (p : Pattern) (sound : soundOf p ≡ true) where
 
   -- ---- runs
 
-  -- a price is that of a run inside the book
-  priced-parts : (b : Book) (begin : ℕ) (xs : List Step) (w : ℤ) → priceOf p b begin xs ≡ some w
-      → (isRun p xs ≡ true) × (begin + lengthOf xs ≤ length b) × (runWorth p b begin xs ≡ w)
-  unfolding priceOf
-  priced-parts b begin xs w e = by (isRun p xs && leb (begin + lengthOf xs) (length b)) refl e
-    where
-      by : (t : Bool) → isRun p xs && leb (begin + lengthOf xs) (length b) ≡ t → cond t (some (runWorth p b begin xs)) none ≡ some w
-          → (isRun p xs ≡ true) × (begin + lengthOf xs ≤ length b) × (runWorth p b begin xs ≡ w)
-      by true h e = let a = both (isRun p xs) _ h in (a .0, leb-true _ _ (a .1), Option·some-injective _ w e)
-      by false h e = absurd (Option·none-ne-some w e)
-
   run-of : (b : Book) (begin end len : ℕ) (w : ℤ) (xs : List Step) → isRun p xs ≡ true → begin + lengthOf xs ≤ length b → runWorth p b begin xs ≡ w
       → lengthOf xs ≡ len → begin + len ≡ end → Run (weightingOf (p .weighing)) (automatonOf p) (viewOf p b) begin end len w
   unfolding isRun
@@ -193,7 +184,7 @@ module _ (p : Pattern) (sound : soundOf p ≡ true) where
       and-in _ _ starts going
 
   priced-of : (b : Book) (begin end len : ℕ) (w : ℤ) → end ≤ length b
-      → Run (weightingOf (p .weighing)) (automatonOf p) (viewOf p b) begin end len w → Priced p b begin end len w
+      → Run (weightingOf (p .weighing)) (automatonOf p) (viewOf p b) begin end len w → PricedRun p b begin end len w
   priced-of b begin end len w h u =
       let r = from-goes (u .first) zeroClocks (u .steps) (u .goes) in
       let xs = r .0 in
@@ -208,7 +199,7 @@ module _ (p : Pattern) (sound : soundOf p ≡ true) where
 
 pub priced-are-runs : PricedAreRuns
 priced-are-runs p sound b begin end len w h = (
-  (λ q. let k = priced-parts p sound b begin (q .steps) w (q .price) in
+  (λ q. let k = priced-parts p b begin (q .steps) w (q .price) in
       run-of p sound b begin end len w (q .steps) (k .0) (k .1) (k .2) (q .lasts) (q .ends)),
   priced-of p sound b begin end len w h,
 )

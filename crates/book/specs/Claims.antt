@@ -1,11 +1,9 @@
 -- What is proved: on a book, runs as document 01 prices them are the runs of the pattern's automaton, with the same worth,
 -- begin and length; unfinished runs are what it reaches; and holding the clocks at their ceilings changes no run.
-use Prim.Native.Nat.{ℕ, _+_, _≤_}
+use Prim.Native.Nat.{ℕ, _≤_}
 use mathlib.Core.Path.{_≡_}
 use mathlib.Core.Bool.{true}
 use mathlib.Core.Logic.{_↔_}
-use mathlib.Core.List.{List}
-use mathlib.Core.Option.{some}
 use lib.ListN.{length}
 use lib.IntN.{ℤ}
 use Rattle.weighting.specs.Weightings.{weightingOf}
@@ -15,8 +13,6 @@ use Rattle.pattern.specs.InUse.{placeAt}
 use Rattle.pattern.specs.Kinds.{isEnd}
 use Rattle.pattern.specs.Clocks.{Clocks}
 use Rattle.record.specs.Record.{Book}
-use Rattle.record.specs.Run.{Step, lengthOf}
-use Rattle.record.specs.Worth.{priceOf}
 use Rattle.walks.specs.Automaton.{State}
 use Rattle.walks.specs.Walks.{Reach}
 use Rattle.walks.specs.Runs.{Run}
@@ -25,19 +21,13 @@ use Rattle.walks.specs.Tables.{opening}
 use Rattle.walks.specs.Claims.{Worthy}
 use Rattle.book.specs.Automaton.{automatonOf, sameClocks, held}
 use Rattle.book.specs.View.{viewOf}
+use Rattle.book.specs.PricedRun.{PricedRun}
 use Rattle.book.specs.Unfinished.{Unfinished}
-
--- Steps that are a run from begin to end in the book, of this length and worth.
-pub record Priced (p : Pattern) (b : Book) (begin end len : ℕ) (w : ℤ) : Type 0 where
-  pub steps : List Step
-  pub price : priceOf p b begin steps ≡ some w
-  pub lasts : lengthOf steps ≡ len
-  pub ends : begin + len ≡ end
 
 abbrev pub PricedAreRuns : Type 0
 PricedAreRuns =
     (p : Pattern) → soundOf p ≡ true → (b : Book) (begin end len : ℕ) (w : ℤ) → end ≤ length b
-    → Priced p b begin end len w ↔ Run (weightingOf (p .weighing)) (automatonOf p) (viewOf p b) begin end len w
+    → PricedRun p b begin end len w ↔ Run (weightingOf (p .weighing)) (automatonOf p) (viewOf p b) begin end len w
 
 -- Unfinished runs of up to `high` ticks are what the automaton reaches, its clocks without any ceiling.
 abbrev pub UnfinishedAreReached : Type 0
@@ -50,7 +40,7 @@ UnfinishedAreReached =
 abbrev pub RunsWereUnfinished : Type 0
 RunsWereUnfinished =
     (p : Pattern) → soundOf p ≡ true → (b : Book) (end len : ℕ) (w : ℤ) → end ≤ length b → 1 ≤ len
-    → ((begin : ℕ) × Priced p b begin end len w)
+    → ((begin : ℕ) × PricedRun p b begin end len w)
     ↔ ((s : State Clocks) × (s .len ≡ len) × (s .entered ≡ true) × (isEnd (placeAt p (s .place) .kind) ≡ true) × Unfinished p b end s w)
 
 abbrev pub GainsAreWorths : Type 0

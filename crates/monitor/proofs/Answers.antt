@@ -1,9 +1,9 @@
 -- Answers in document 01's numbers, by cases on the causes.
 use Prim.Native.Nat.{ℕ}
-use mathlib.Core.Path.{_≡_, refl, sym, ap, _∙_}
-use mathlib.Core.Logic.{_⊎_, inl, inr}
+use mathlib.Core.Path.{_≡_, refl}
+use mathlib.Core.Logic.{inl, inr}
 use mathlib.Core.List.{List, [], _∷_}
-use mathlib.Core.Option.{Option, none, some, Option·none-ne-some, Option·some-injective}
+use mathlib.Core.Option.{some}
 use mathlib.Core.Bool.{Bool, true, false, not, cond}
 use lib.ListN.{length}
 use lib.IntN.{ℤ}
@@ -12,10 +12,11 @@ use Rattle.pattern.specs.declared.Refusal.{Refusal}
 use Rattle.pattern.specs.declared.Refusal.the-variants.{UnsoundPattern, BrokenState, TableTooShort, BrokenRecord, TooManyTicks, BrokenCell, OutputTooShort}
 use Rattle.pattern.specs.Sound.{soundOf}
 use Rattle.pattern.specs.Refusal.{numberOf}
+use Rattle.record.specs.Record.{Book}
 use Rattle.monitor.specs.State.{stateSound}
 use Rattle.monitor.specs.Open.{answerOf, answerNumber, tableTooShort, firstCause, openRefusal, OpenNumbers}
-use Rattle.monitor.specs.Feed.{pieceBroken, tooManyTicks, cellsBroken, reportsTooShort, feedCause, FeedNumbers}
-use Rattle.monitor.specs.Demand.{refusalBy, OnlyThreeCauses}
+use Rattle.monitor.specs.Feed.{Call, pieceBroken, tooManyTicks, cellsBroken, reportsTooShort, feedCause, FeedNumbers}
+use Rattle.monitor.specs.Demand.{refusalBy, PossibleNumber}
 
 -- the number of the first cause, 0 without one
 abbrev firstNumber : List (Bool × Refusal) → ℕ
@@ -48,16 +49,13 @@ feed-numbers p s t u c =
     ∷ (reportsTooShort (length (c .scores)) (length (c .lengths)) (c .duration), OutputTooShort)
     ∷ [])
 
-pub only-three-causes : OnlyThreeCauses
+-- a call that is refused as the book says
+pub possible-number : (p : Pattern) (b : Book) (c : Call) → PossibleNumber (answerNumber (answerOf (refusalBy p b c)))
 unfolding refusalBy
-only-three-causes p b c r = by (pieceBroken p (c .duration) (c .values)) (tooManyTicks (length b) (c .duration)) (reportsTooShort (length (c .scores)) (length (c .lengths)) (c .duration))
+possible-number p b c = by (pieceBroken p (c .duration) (c .values)) (tooManyTicks (length b) (c .duration)) (reportsTooShort (length (c .scores)) (length (c .lengths)) (c .duration))
   where
-    is : (k : Refusal) → some k ≡ some r → numberOf r ≡ numberOf k
-    is k e = ap numberOf (sym (Option·some-injective k r e))
-
-    by : (x y z : Bool) → firstCause ((x, BrokenRecord) ∷ (y, TooManyTicks) ∷ (z, OutputTooShort) ∷ []) ≡ some r
-        → (numberOf r ≡ 8) ⊎ (numberOf r ≡ 13) ⊎ (numberOf r ≡ 6)
-    by true y z e = inl (is BrokenRecord e)
-    by false true z e = inr (inl (is TooManyTicks e))
-    by false false true e = inr (inr (is OutputTooShort e))
-    by false false false e = absurd (Option·none-ne-some r e)
+    by : (x y z : Bool) → PossibleNumber (answerNumber (answerOf (firstCause ((x, BrokenRecord) ∷ (y, TooManyTicks) ∷ (z, OutputTooShort) ∷ []))))
+    by true y z = inr (inl refl)
+    by false true z = inr (inr (inl refl))
+    by false false true = inr (inr (inr refl))
+    by false false false = inl refl

@@ -124,7 +124,7 @@ module _ (p : Pattern) (sound : soundOf p ≡ true) (t₀ u₀ : List ℤ) where
       }
 
   hold-after : (calls : List Call) (b : Book) (s : State) (t u : List ℤ) → Between p b s t u → Aside p t₀ u₀ t u → HoldAfter p t₀ u₀ b s t u calls
-  hold-after [] b s t u h k = holds-now b s t u h k
+  hold-after [] b s t u h k = (record { ticks = h .ticks; last = h .last }, holds-now b s t u h k)
   hold-after (c ∷ cs) b s t u h k =
       hold-after cs (bookAfter p b c) (feedState p s t u c) (feedFirst p s t u c) (feedSecond p s t u c) (after p b s t u h c) (aside-after b s t u h k c)
 

@@ -25,7 +25,6 @@ use Rattle.walks.proofs.Rows.{reports-only-cells}
 use Rattle.walks.proofs.ReportsBest.{reports-say}
 use Rattle.book.specs.Automaton.{automatonOf, held, sameClocks, heldAutomaton}
 use Rattle.book.specs.View.{sampleAt, before, viewOf}
-use Rattle.book.specs.Claims.{Priced}
 use Rattle.book.proofs.Ceilings.{ceilings-hold}
 use Rattle.book.proofs.StayGains.{gains-are-worths}
 use Rattle.book.proofs.Runs.{priced-are-runs}
@@ -33,9 +32,10 @@ use Rattle.monitor.specs.declared.State.{State}
 use Rattle.monitor.specs.Cells.{upTo, cellStates, written}
 use Rattle.monitor.specs.Tick.{openTable, ticksLater, reportOf, scoreIn, lengthIn}
 use Rattle.monitor.specs.State.{noTicks}
-use Rattle.monitor.specs.Open.{answerOf, unlessRefused, marks, tableTooShort, openRefusal, openState, openFirst, openSecond}
+use Rattle.monitor.specs.Open.{answerOf, answerNumber, unlessRefused, marks, tableTooShort, openRefusal, openState, openFirst, openSecond}
 use Rattle.monitor.specs.Feed.{Call, feedRefusal, tableAfter, reportAfter, feedState, feedFirst, feedSecond, feedScores, feedLengths}
-use Rattle.monitor.specs.Demand.{refusalBy, bookAfter, InWindow, BestRun, NoRun, Accepted, Rejected, Right, AllRight, Demand3}
+use Rattle.monitor.specs.Demand.{refusalBy, bookAfter, InWindow, BestRun, NoRun, Accepted, Rejected, Right, AllRight, Demand3, PossibleNumber, AllPossible, OnlyThreeCauses}
+use Rattle.monitor.proofs.Answers.{possible-number}
 use Rattle.monitor.proofs.Numbers.{made-front, made-rest, told-length}
 use Rattle.monitor.proofs.CellLaws.{closed, of-cells}
 use Rattle.monitor.proofs.Written.{held-written, written-length, marks-length}
@@ -152,6 +152,13 @@ all-right p [] b s t u h = tt
 all-right p (c ∷ cs) b s t u h =
     (right p b s t u h c, all-right p cs (bookAfter p b c) (feedState p s t u c) (feedFirst p s t u c) (feedSecond p s t u c) (after p b s t u h c))
 
+all-possible : (p : Pattern) (calls : List Call) (b : Book) (s : State) (t u : List ℤ) → Between p b s t u → AllPossible p s t u calls
+all-possible p [] b s t u h = tt
+all-possible p (c ∷ cs) b s t u h = (
+  subst (λ (o : Option Refusal). PossibleNumber (answerNumber (answerOf o))) (sym (refusal-is p b s t u h c)) (possible-number p b c),
+  all-possible p cs (bookAfter p b c) (feedState p s t u c) (feedFirst p s t u c) (feedSecond p s t u c) (after p b s t u h c),
+)
+
 -- ---- the opening
 
 pub open-parts : (p : Pattern) (first second : ℕ) → openRefusal p first second ≡ none → (soundOf p ≡ true) × (cellsNeeded p ≤ first) × (cellsNeeded p ≤ second)
@@ -184,3 +191,6 @@ opened p s t u e = rw e (fresh p t u (open-parts p (length t) (length u) e))
 
 pub demand3 : Demand3
 demand3 p s t u e calls = all-right p calls [] (openState p t u s) (openFirst p t u) (openSecond p t u) (opened p s t u e)
+
+pub only-three-causes : OnlyThreeCauses
+only-three-causes p s t u e calls = all-possible p calls [] (openState p t u s) (openFirst p t u) (openSecond p t u) (opened p s t u e)

@@ -1,12 +1,12 @@
--- What the tables hold between calls (document 01, 'Monitor tables'): "A cell holds the best worth of all unfinished runs in
--- that state now, the present stay included, or the mark". Proved in proofs/CellsHold.antt, for every list of feeds after an
--- accepted opening, refused feeds included and pieces cut anywhere, on the book of demand 3.
-use Prim.Native.Nat.{ℕ, _<_}
+-- What the state and the tables hold between calls (document 01, 'Monitor tables'): "A cell holds the best worth of all
+-- unfinished runs in that state now, the present stay included, or the mark". Proved in proofs/CellsHold.antt, for every list
+-- of feeds after an accepted opening, refused feeds included and pieces cut anywhere, on the book of demand 3.
+use Prim.Native.Nat.{ℕ, _-_, _<_}
 use mathlib.Core.Path.{_≡_}
-use mathlib.Core.List.{List, [], _∷_}
+use mathlib.Core.List.{List, [], _∷_, _++_}
 use mathlib.Core.Option.{none}
 use lib.ListN.{length, take, drop, getD, replicate}
-use lib.IntN.{ℤ}
+use lib.IntN.{ℤ, pos}
 use Rattle.weighting.specs.Order.{IsBest}
 use Rattle.weighting.specs.Weightings.{weightingOf}
 use Rattle.weighting.specs.Cell.{mark, heldIn}
@@ -17,6 +17,7 @@ use Rattle.record.specs.Record.{Book}
 use Rattle.walks.specs.Automaton.{State as RunState}
 use Rattle.walks.specs.Holding.{holdState}
 use Rattle.book.specs.Automaton.{held}
+use Rattle.book.specs.View.{before}
 use Rattle.book.specs.Unfinished.{Unfinished}
 use Rattle.monitor.specs.declared.State.{State}
 use Rattle.monitor.specs.Cells.{stateAt}
@@ -44,10 +45,16 @@ pub record TablesHold (p : Pattern) (lentFirst lentSecond : List ℤ) (b : Book)
   pub firstLong : length first ≡ length lentFirst
   pub secondLong : length second ≡ length lentSecond
 
+-- The state: "ticks so far and the last values (zeros before the first piece and in unused channels)". The ticks are the
+-- book's, and the last values its last sample; before the first tick `before` is zeros, so there they are zeros throughout.
+pub record StateHolds (p : Pattern) (b : Book) (s : State) : Type 0 where
+  pub ticks : s .ticks ≡ length b
+  pub last : s .last ≡ before p b (length b) ++ replicate (8 - p .channels) (pos 0)
+
 module _ (p : Pattern) (lentFirst lentSecond : List ℤ) where
   -- After a list of calls, each going on from what the one before it left.
   abbrev pub HoldAfter : Book → State → (first second : List ℤ) → List Call → Type 0
-  HoldAfter b s t u [] = TablesHold p lentFirst lentSecond b t u
+  HoldAfter b s t u [] = StateHolds p b s × TablesHold p lentFirst lentSecond b t u
   HoldAfter b s t u (c ∷ cs) =
       HoldAfter (bookAfter p b c) (feedState p s t u c) (feedFirst p s t u c) (feedSecond p s t u c) cs
 

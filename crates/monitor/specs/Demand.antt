@@ -14,12 +14,11 @@ use Rattle.weighting.specs.Weightings.{weightingOf}
 use Rattle.pattern.specs.declared.Pattern.{Pattern}
 use Rattle.pattern.specs.declared.Refusal.{Refusal}
 use Rattle.pattern.specs.declared.Refusal.the-variants.{BrokenRecord, TooManyTicks, OutputTooShort}
-use Rattle.pattern.specs.Refusal.{numberOf}
 use Rattle.record.specs.Record.{Book}
-use Rattle.book.specs.Claims.{Priced}
+use Rattle.book.specs.PricedRun.{PricedRun}
 use Rattle.monitor.specs.declared.State.{State}
 use Rattle.monitor.specs.declared.Answer.the-variants.{Done, Refused}
-use Rattle.monitor.specs.Open.{unlessRefused, firstCause, openRefusal, openState, openFirst, openSecond}
+use Rattle.monitor.specs.Open.{answerNumber, unlessRefused, firstCause, openRefusal, openState, openFirst, openSecond}
 use Rattle.monitor.specs.Feed.{Call, pieceBroken, tooManyTicks, reportsTooShort, feedAnswer, feedState, feedFirst, feedSecond, feedScores, feedLengths}
 
 -- ---- the book, "kept from the calls' arguments alone"
@@ -43,7 +42,7 @@ bookAfter p b c = unlessRefused (refusalBy p b c) (b ++ replicate (c .duration) 
 -- A run in the book with that end, "whose length is at least the window's low and at most its high".
 pub record InWindow (p : Pattern) (b : Book) (end len : ℕ) (w : ℤ) : Type 0 where
   pub begin : ℕ
-  pub run : Priced p b begin end len w
+  pub run : PricedRun p b begin end len w
   pub low : p .low ≤ len
   pub high : len ≤ p .high
 
@@ -101,8 +100,19 @@ Demand3 =
     (p : Pattern) (s : State) (t u : List ℤ) → openRefusal p (length t) (length u) ≡ none → (calls : List Call)
     → AllRight p [] (openState p t u s) (openFirst p t u) (openSecond p t u) calls
 
--- "no other cause can arise in such a list": by Demand3 a call's answer is that of `refusalBy`, and this is 8, 13 or 6.
+-- "no other cause can arise in such a list": an answer's number is 0 (done), 8, 13 or 6.
+abbrev pub PossibleNumber : ℕ → Type 0
+PossibleNumber n = (n ≡ 0) ⊎ (n ≡ 8) ⊎ (n ≡ 13) ⊎ (n ≡ 6)
+
+-- So it is of every call of a list, each going on from what the one before it left.
+abbrev pub AllPossible : Pattern → State → (first second : List ℤ) → List Call → Type 0
+AllPossible p s t u [] = Unit
+AllPossible p s t u (c ∷ cs) =
+    PossibleNumber (answerNumber (feedAnswer p s t u c))
+    × AllPossible p (feedState p s t u c) (feedFirst p s t u c) (feedSecond p s t u c) cs
+
+-- After an accepted opening no list of feeds, whatever they bring, ever gives 7, 12, 11 or 14.
 abbrev pub OnlyThreeCauses : Type 0
 OnlyThreeCauses =
-    (p : Pattern) (b : Book) (c : Call) (r : Refusal) → refusalBy p b c ≡ some r
-    → (numberOf r ≡ 8) ⊎ (numberOf r ≡ 13) ⊎ (numberOf r ≡ 6)
+    (p : Pattern) (s : State) (t u : List ℤ) → openRefusal p (length t) (length u) ≡ none → (calls : List Call)
+    → AllPossible p (openState p t u s) (openFirst p t u) (openSecond p t u) calls

@@ -4,7 +4,7 @@ use mathlib.Core.Path.{_≡_, refl, sym, ap, _∙_}
 use mathlib.Core.List.{List, [], _∷_, _++_, map, flatMap, append-assoc, List·Memᴰ, List·Memᴰ·head, List·Memᴰ·tail, List·Memᴰ·cases-cons, List·Memᴰ·not-nil}
 use mathlib.Core.Logic.{⊎-elim}
 use native.Mathlib.Omega.{arith}
-use mathlib.Core.Option.{none, some, Option·some-injective, Option·none-ne-some}
+use mathlib.Core.Option.{none, some}
 use mathlib.Core.Bool.{Bool, true, false, cond, _&&_}
 use borrow.Author.Tests.{le-leb, leb-true}
 use lib.Dec.{T, leb}
@@ -34,6 +34,7 @@ use Rattle.record.specs.Claims.{CutsDoNotMatter, ObservedInOrder, Margin
 use Rattle.record.proofs.StepLaws.{later-is, can-parts}
 use Rattle.record.proofs.JoinedLaws.{same-true, joined-fresh}
 use Rattle.record.proofs.PlaceLaws.{stays-worth-all}
+use Rattle.record.proofs.PriceLaws.{priced-parts}
 
 -- ---- cuts
 
@@ -107,16 +108,11 @@ module _ (p : Pattern) (is : p .weighing ≡ Margin) where
       ∙ sym (combineFrom-append margin a ds (distancesIn p b (t + x .stay) xs))
 
 pub margin-is-least-distance : MarginIsLeastDistance
-unfolding priceOf runWorth
-margin-is-least-distance p b begin xs w is e = by (isRun p xs && leb (begin + lengthOf xs) (length b)) e
-  where
-    by : (t : Bool) → cond t (some (combineAll (weightingOf (p .weighing)) (stayWorths p b begin xs))) none ≡ some w
-        → w ≡ combineAll margin (distancesIn p b begin xs)
-    by true k =
-        sym (Option·some-injective _ w k)
-        ∙ ap (λ (v : Weighing). combineAll (weightingOf v) (stayWorths p b begin xs)) is
-        ∙ stays-least p is b begin xs (margin .unit) (margin .unit-worth)
-    by false k = absurd (Option·none-ne-some w k)
+unfolding runWorth
+margin-is-least-distance p b begin xs w is e =
+    sym (priced-parts p b begin xs w e .2)
+    ∙ ap (λ (v : Weighing). combineAll (weightingOf v) (stayWorths p b begin xs)) is
+    ∙ stays-least p is b begin xs (margin .unit) (margin .unit-worth)
 
 -- ---- places that no step leaves
 

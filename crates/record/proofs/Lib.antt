@@ -1,7 +1,8 @@
--- Laws of lists, of joining, of records, of a place's worth and of steps; the claims of specs/Claims.
+-- Laws of lists, of joining, of records, of a place's worth, of steps and of prices; the claims of specs/Claims.
 pub mod ListLaws
 pub mod JoinedLaws
 pub mod RecordLaws
 pub mod PlaceLaws
 pub mod StepLaws
+pub mod PriceLaws
 pub mod Claims

@@ -45,7 +45,8 @@ distancesIn p b t [] = []
 distancesIn p b t (x ∷ xs) =
     flatMap (distancesOf (placeAt p (edgeAt p (x .edge) .from))) (take (x .stay) (drop t b)) ++ distancesIn p b (t + x .stay) xs
 
--- In margin a run's price is the least of them all; 2,000,001 if there is none (`margin`'s unit).
+-- In margin a run's price is the least of 2,000,001 (`margin`'s unit) and all of them. In document 01's ranges every distance
+-- is at most 2,000,000 (theorem DistancesInRange), so it is the least of them, and 2,000,001 exactly if there is none.
 abbrev pub MarginIsLeastDistance : Type 0
 MarginIsLeastDistance =
     (p : Pattern) (b : Book) (begin : ℕ) (xs : List Step) (w : ℤ) → p .weighing ≡ Margin

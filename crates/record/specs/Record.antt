@@ -28,13 +28,15 @@ unfoldable pub piecesOf : (channels : ℕ) → (durations : List ℕ) → (value
 piecesOf n [] vs = []
 piecesOf n (d ∷ ds) vs = record { duration = d; sample = take n vs } ∷ piecesOf n ds (drop n vs)
 
--- The sample of a piece, by its number.
+-- The sample of a piece, by its number: its "one value per channel" (for the code; the book takes the values piece by piece).
 unfoldable pub sampleAt : (channels : ℕ) → (values : List ℤ) → (piece : ℕ) → Sample
 sampleAt n vs i = take n (drop (i * n) vs)
 
+-- The book of a lent record: "Tick t runs from time t to t + 1", from the first piece's first tick on.
 unfoldable pub bookOf : (channels : ℕ) → (durations : List ℕ) → (values : List ℤ) → Book
 bookOf n ds vs = ticksOf (piecesOf n ds vs)
 
+-- "The durations total": the record's ticks.
 unfoldable pub total : List ℕ → ℕ
 total [] = 0
 total (n ∷ ns) = n + total ns

@@ -21,7 +21,8 @@ canStep p k cs x =
     ltb (x .edge) (p .edgecount) && eqb (edgeAt p (x .edge) .from) k && leb 1 (x .stay)
     && guardsHold (later (x .stay) cs) (edgeAt p (x .edge))
 
--- The clocks after a step: grown by the stay, and then the edge's resets.
+-- The clocks after a step: "every clock growing with it", and, once the edge is taken, "then sets the edge's reset clocks to
+-- 0".
 abbrev pub clocksAfter : Pattern → Clocks → Step → Clocks
 clocksAfter p cs x = afterResets (edgeAt p (x .edge)) (later (x .stay) cs)
 
@@ -48,6 +49,6 @@ unfoldable pub lengthOf : List Step → ℕ
 lengthOf [] = 0
 lengthOf (x ∷ xs) = x .stay + lengthOf xs
 
--- A run's edge list and stay list, side by side.
+-- A run as it is lent ('Price a run': "edge list and stay list"): the first edge with the first stay, and so on.
 unfoldable pub stepsOf : (edges stays : List ℕ) → List Step
 stepsOf es ss = zipWith (λ e s. record { edge = e; stay = s }) es ss

@@ -31,7 +31,8 @@ stayWorths p b t (x ∷ xs) = stayWorth p b (edgeAt p (x .edge) .from) t (x .sta
 unfoldable pub runWorth : Pattern → Book → (begin : ℕ) → List Step → ℤ
 runWorth p b begin xs = combineAll (weightingOf (p .weighing)) (stayWorths p b begin xs)
 
--- What steps are worth from a begin on, if they are a run and do not pass the book's end.
+-- "A run is priced from any begin inside the record. The window does not count in pricing." None if the steps "are not a
+-- run, or pass the record's end".
 unfoldable pub priceOf : Pattern → Book → (begin : ℕ) → List Step → Option ℤ
 priceOf p b begin xs =
     cond (isRun p xs && leb (begin + lengthOf xs) (length b)) (some (runWorth p b begin xs)) none

@@ -1,5 +1,5 @@
--- An automaton with clocks, a view of ticks, and where an unfinished run stands. Nothing is said of what a clock, a
--- guard or a sample is.
+-- An automaton with clocks, a view of ticks, and where an unfinished run stands. Nothing is said of what a clock or a guard
+-- is, nor of what a tick brings.
 use mathlib.Core.Path.{_≡_}
 use mathlib.Core.Bool.{Bool, true, false, _&&_, Bool·beq}
 use mathlib.Core.Option.{Option}
