@@ -1,4 +1,4 @@
--- Why the choice among the reports is the best over all ends; and why the code finds it.
+-- Why the choice among the reports is the best over all ends; why the code finds it; what is answered.
 pub mod Ends
 pub mod Choices
 pub mod Pieces
@@ -6,3 +6,4 @@ pub mod Chunk
 pub mod Turn
 pub mod Whole
 pub mod Left
+pub mod Answer

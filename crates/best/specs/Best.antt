@@ -10,6 +10,7 @@ use Rattle.pattern.specs.declared.Pattern.{Pattern}
 use Rattle.pattern.specs.declared.Refusal.{Refusal}
 use Rattle.pattern.specs.declared.Refusal.the-variants.{UnsoundPattern, BrokenRecord, TableTooShort}
 use Rattle.pattern.specs.Sound.{soundOf}
+use Rattle.pattern.specs.Refusal.{numberOf}
 use Rattle.record.specs.Record.{Book, recordSound, bookOf}
 use Rattle.book.specs.View.{viewOf}
 use Rattle.monitor.specs.Cells.{written}
@@ -68,6 +69,17 @@ answered none (some f) = Run (f .end) (f .end - f .len) (f .score)
 
 abbrev pub bestOf : Pattern → (durations : List ℕ) → (values : List ℤ) → (first second : List ℤ) → Found
 bestOf p ds vs t u = answered (bestRefusal p ds vs (length t) (length u)) (chosenOf p (bookOf (p .channels) ds vs))
+
+-- What an answer says: the refusal's number (0 if there is none), and the end, begin and score; none of them beside a refusal,
+-- and none without a run.
+abbrev pub foundAs : Found → ℕ × Option (ℕ × ℕ × ℤ)
+foundAs (Run end begin score) = (0, some (end, begin, score))
+foundAs Nothing = (0, none)
+foundAs (Refused r) = (numberOf r, none)
+
+abbrev pub chosenAs : Option Chosen → Option (ℕ × ℕ × ℤ)
+chosenAs none = none
+chosenAs (some f) = some (f .end, f .end - f .len, f .score)
 
 -- "The tables are left as opening and then feeding the whole record leaves them": the table after all ticks, and marks.
 abbrev pub bestFirst : Pattern → (durations : List ℕ) → (values : List ℤ) → (first second : List ℤ) → List ℤ
