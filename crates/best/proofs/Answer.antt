@@ -1,8 +1,8 @@
 -- The answer: from the choice over all ends to a run's end, begin and score.
-use Prim.Native.Nat.{ℕ, zero, suc, _+_, _-_, _≤_}
+use Prim.Native.Nat.{ℕ, _+_, _-_, _≤_}
 use native.Mathlib.Omega.{arith}
-use mathlib.Core.Path.{_≡_, refl, sym, ap, subst, _∙_}
-use mathlib.Core.List.{List, [], _∷_}
+use mathlib.Core.Path.{_≡_, refl, subst, _∙_}
+use mathlib.Core.List.{[], _∷_}
 use mathlib.Core.Option.{Option, none, some}
 use mathlib.Core.Bool.{Bool, true, false, not, cond}
 use lib.ListN.{length}
@@ -16,8 +16,8 @@ use Rattle.record.proofs.PriceLaws.{priced-parts}
 use Rattle.monitor.specs.Open.{firstCause, tableTooShort}
 use Rattle.monitor.specs.Demand.{InWindow}
 use Rattle.monitor.proofs.Demand.{open-parts}
-use Rattle.best.specs.Best.{Chosen, chosenTo, chosenOf, bestRefusal, answered, bestOf, foundAs, chosenAs}
-use Rattle.best.specs.Claims.{Told, RunFrom, BestRunIs, AnswerSays, BestAnswers, NothingInNothing, BestNumbers}
+use Rattle.best.specs.Best.{Chosen, chosenTo, chosenOf, bestRefusal, answered, foundAs, chosenAs}
+use Rattle.best.specs.Claims.{Told, RunFrom, AnswerSays, BestAnswers, NothingInNothing, BestNumbers}
 use Rattle.best.proofs.Ends.{best-of-record}
 use Rattle.best.proofs.Whole.{causes}
 

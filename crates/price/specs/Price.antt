@@ -1,12 +1,14 @@
 -- The operation 'Price a run' (document 01, 'Operations and refusals'): 7, 8, 9, 10 in this order, else the score.
-use Prim.Native.Nat.{ℕ}
+use Prim.Native.Nat.{ℕ, _*_, _^_, _≤_, _<_}
 use mathlib.Core.Path.{_≡_}
 use mathlib.Core.List.{List}
 use mathlib.Core.Option.{Option, none, some}
 use mathlib.Core.Bool.{Bool, cond, _&&_}
 use lib.Dec.{eqb, leb, ltb}
 use lib.ListN.{length}
-use lib.IntN.{ℤ, pos}
+use lib.IntN.{ℤ, pos, natAbs}
+use Rattle.weighting.specs.declared.Weighing.{Weighing}
+use Rattle.weighting.specs.declared.Weighing.the-variants.{Margin, Sum}
 use Rattle.pattern.specs.declared.Pattern.{Pattern}
 use Rattle.pattern.specs.declared.Refusal.the-variants.{UnsoundPattern, BrokenRecord, BrokenSteps, NotARun}
 use Rattle.pattern.specs.Sound.{soundOf}
@@ -14,7 +16,7 @@ use Rattle.pattern.specs.Refusal.{numberOf}
 use Rattle.price.specs.declared.Priced.{Priced}
 use Rattle.price.specs.declared.Priced.the-variants.{Score, Refused}
 use Rattle.record.specs.Record.{total, recordSound, bookOf}
-use Rattle.record.specs.Run.{stepsOf}
+use Rattle.record.specs.Run.{lengthOf, stepsOf}
 use Rattle.record.specs.Worth.{priceOf}
 
 -- "9: edge list and stay list differ in length, are empty or over 4,095, or begin is not inside the record."
@@ -56,3 +58,17 @@ PricedNumbers =
     (cond (stepsFit ds begin es ss) (scoredAs (priceOf p (bookOf (p .channels) ds vs) begin (stepsOf es ss))) (9, pos 0))
     (8, pos 0))
     (7, pos 0)
+
+-- How large a run of so many ticks can be: in margin no more than one distance, or 2,000,001 without tests; in sum each tick
+-- brings at most one observation, of at most four distances of 2,000,000.
+abbrev pub largestScore : Weighing → (ticks : ℕ) → ℕ
+largestScore Margin n = 2_000_001
+largestScore Sum n = 8_000_000 * n
+
+-- Theorem: "tables are signed 64-bit", and no score leaves them: one that is answered is no larger than this, and so far below
+-- 2^63, as a record has at most 2,147,483,647 ticks.
+abbrev pub ScoresInRange : Type 0
+ScoresInRange =
+    (p : Pattern) (ds : List ℕ) (vs : List ℤ) (begin : ℕ) (es ss : List ℕ) (w : ℤ)
+    → pricedOf p ds vs begin es ss ≡ Score w
+    → (natAbs w ≤ largestScore (p .weighing) (lengthOf (stepsOf es ss))) × (natAbs w < 2 ^ 54)
