@@ -3,12 +3,14 @@ use cells::layout_of;
 use feed_checks::feed_refusal;
 use feed_checks::open_refusal;
 use feed_ticks::kind_flags;
+use feed_ticks::repeat_last;
 use feed_ticks::tell_all;
 use feed_ticks::view_in;
 use monitor::After;
 use monitor::Answer;
 use monitor::State;
 use pattern::Pattern;
+use record::rules::least;
 use record::samples::same_sample;
 use table::clear;
 ghost use mathlib.Core.Path.{_≡_};
@@ -112,7 +114,8 @@ fn last_after(last: [i32; 8], values: &[i32]) -> [i32; 8]
     kept
 }
 
-// The ticks of a piece, each with its report.
+// The ticks of a piece, each with its report. Its later ticks are all alike, so that after high + 2 of them the table stands
+// still: the rest of the reports is the last one again.
 fn tell_piece(
     p: Pattern,
     new: bool,
@@ -141,11 +144,13 @@ fn tell_piece(
     let ends = kind_flags(true, p);
     let count = p.edgecount as usize;
     let low = p.low as usize;
+    let still = p.high as u32 + 2;
+    let moved = least(duration, still) as usize;
     tell_all(
         first,
         scores,
         lengths,
-        duration as usize,
+        moved,
         l,
         w,
         v,
@@ -156,6 +161,7 @@ fn tell_piece(
         ends,
         low,
     );
+    repeat_last(scores, lengths, moved, duration as usize);
 }
 
 // What feeding does when it is not refused.

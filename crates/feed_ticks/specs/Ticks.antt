@@ -3,7 +3,7 @@
 use Prim.Native.Nat.{ℕ, zero, suc, _+_, _≤_}
 use mathlib.Core.List.{List, _++_, map}
 use mathlib.Core.Bool.{Bool, true, false, cond}
-use lib.ListN.{drop}
+use lib.ListN.{drop, set}
 use lib.IntN.{ℤ}
 use Rattle.weighting.specs.declared.Weighing.{Weighing}
 use Rattle.pattern.specs.declared.Kind.{Kind}
@@ -69,6 +69,11 @@ scoresTo g v u t scores n = map (λ i. reportIn g v u t i .score) (upTo n) ++ dr
 
 unfoldable pub lengthsTo : Ground → View → View → List ℤ → List ℕ → ℕ → List ℕ
 lengthsTo g v u t lengths n = map (λ i. reportIn g v u t i .length) (upTo n) ++ drop n lengths
+
+-- A list once n places from one on hold the same.
+unfoldable pub repeated : {A : Type 0} → List A → (from n : ℕ) → A → List A
+repeated l from zero a = l
+repeated l from (suc n) a = set (repeated l from n a) (from + n) a
 
 -- What the ticks ask: a table that can be moved under either view, and room for the reports.
 pub record Telling (g : Ground) (v u : View) (t : List ℤ) (scores lengths duration : ℕ) : Type 0 where

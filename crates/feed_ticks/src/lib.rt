@@ -1,4 +1,5 @@
-// The ticks of a piece over the cells: what stands still during a piece is made once, then each tick is told.
+// The ticks of a piece over the cells: what is the same for all of them is made once, then each tick is told; and a last
+// report told again.
 use cells::Layout;
 use pattern::Edge;
 use pattern::Kind;
@@ -14,13 +15,14 @@ use weighting::Weighing;
 use weighting::unit;
 ghost use mathlib.Core.Path.{_≡_};
 ghost use Rattle.book.specs.View.{counts, gainIn};
-ghost use Prim.Native.Nat.{_+_, _≤_, _<_};
-ghost use lib.ListN.{length, set};
+ghost use Prim.Native.Nat.{_+_, _-_, _≤_, _<_};
+ghost use lib.ListN.{length, getD, set};
+ghost use lib.IntN.{pos};
 ghost use Rattle.table.specs.Moves.{tickOf};
 ghost use Rattle.table.specs.Reports.{reportOf};
 ghost use Rattle.table.specs.Asks.{Ticking};
 ghost use Rattle.feed_ticks.specs.Ticks.{kindFlag, kindFlags, viewIn, viewAt, groundOf};
-ghost use Rattle.feed_ticks.specs.Ticks.{Telling, tableTo, scoresTo, lengthsTo};
+ghost use Rattle.feed_ticks.specs.Ticks.{Telling, tableTo, scoresTo, lengthsTo, repeated};
 
 fn kind_flag(ending: bool, k: Kind) -> bool
     ensures { λ r. ⌜ r ≡ kindFlag ending k ⌝ }
@@ -163,5 +165,46 @@ pub fn tell_all(
             low,
         );
         i += 1;
+    }
+}
+
+// A score in all places from one up to another.
+fn repeat_score(scores: &mut [i64], from: usize, to: usize, score: i64)
+    requires { ⌜ (from ≤ to) × (to ≤ length (now scores)) ⌝ }
+    ensures { λ _. ⌜ now (scores .exit) ≡ repeated (now (scores .entry)) from (to - from) score ⌝ }
+{
+    let mut i = from;
+    while i < to {
+        scores[i] = score;
+        i += 1;
+    }
+}
+
+// A length in all places from one up to another.
+fn repeat_length(lengths: &mut [u32], from: usize, to: usize, ticks: u32)
+    requires { ⌜ (from ≤ to) × (to ≤ length (now lengths)) ⌝ }
+    ensures { λ _. ⌜ now (lengths .exit) ≡ repeated (now (lengths .entry)) from (to - from) ticks ⌝ }
+{
+    let mut i = from;
+    while i < to {
+        lengths[i] = ticks;
+        i += 1;
+    }
+}
+
+// The last report that was told, once more for each tick through which the table stands still.
+pub fn repeat_last(scores: &mut [i64], lengths: &mut [u32], from: usize, to: usize)
+    requires { ⌜ (from ≤ to) × (to ≤ length (now scores)) × (to ≤ length (now lengths)) × (from < to → 1 ≤ from) ⌝ }
+    ensures { λ _. ⌜ now (scores .exit)
+        ≡ repeated (now (scores .entry)) from (to - from) (getD (now (scores .entry)) (from - 1) (pos 0)) ⌝ }
+    ensures { λ _. ⌜ now (lengths .exit)
+        ≡ repeated (now (lengths .entry)) from (to - from) (getD (now (lengths .entry)) (from - 1) 0) ⌝ }
+{
+    if from < to {
+        let last = from - 1;
+        let score = scores[last];
+        let ticks = lengths[last];
+        repeat_score(scores, from, to, score);
+        repeat_length(lengths, from, to, ticks);
     }
 }
