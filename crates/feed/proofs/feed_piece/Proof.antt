@@ -1,10 +1,13 @@
 use Prim.Native.Nat.{ℕ, zero, suc, _+_, _*_, _-_, _≤_, _<_}
 use native.Mathlib.Omega.{arith}
 use mathlib.Core.Path.{_≡_, refl, sym, ap, subst, _∙_}
+use mathlib.Core.Bool.{Bool}
 use borrow.Author.Needs.{needs}
 use lib.ListN.{length}
 use Rattle.pattern.proofs.SoundLaws.{parts}
+use Rattle.monitor.specs.Cells.{written}
 use Rattle.feed_checks.proofs.Accepted.{Fed, fed}
+use Rattle.feed.specs.Piece.{tableIn, scoresIn, lengthsIn}
 use Rattle.feed.proofs.feed_piece.Statement.{statement}
 use Rattle.feed.proofs.feed_piece.Tie as tie
 use Rattle.feed.proofs.feed_piece.Reads as reads
@@ -65,7 +68,19 @@ returns c =
     let f = told (c .before .before .before .before .before .before .before .before .before .before .before .before .before .before .before .before) in
     let new = c .before .before .before .before .before .before .before .before .before .before .before .before .before .before .is-new .ensures in
     let o = c .before .before .before .before .before .before .before .before .before .before .tell-piece .ensures in
-    (rw (c .before .last-after .ensures, f .piece .count), (o .0 ∙ rw new, (c .before .before .before .before .mark-all .ensures, (o .1 .0 ∙ rw new, o .1 .1 ∙ rw new))))
+    let a = c .before .before .before .before .before .before .before .before .before .before .before .before .before .before .before .before .args in (
+      rw (c .before .last-after .ensures, f .piece .count),
+      (
+        o .0 ∙ ap (λ (x : Bool). written (a .p) (tableIn (a .p) x (a .values .now) (a .first .now) (a .duration)) (a .first .now)) new,
+        (
+          c .before .before .before .before .mark-all .ensures,
+          (
+            o .1 .0 ∙ ap (λ (x : Bool). scoresIn (a .p) x (a .values .now) (a .first .now) (a .duration) (a .scores .now)) new,
+            o .1 .1 ∙ ap (λ (x : Bool). lengthsIn (a .p) x (a .values .now) (a .first .now) (a .duration) (a .lengths .now)) new,
+          ),
+        ),
+      ),
+    )
 
 pub feed-piece-spec : {M : Type 1} → statement M
 feed-piece-spec =
