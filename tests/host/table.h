@@ -1,4 +1,4 @@
-/* table.h: reads the table of texts and answers (crates/text_vectors/data/texts.txt, which says its own form). */
+/* table.h: reads the table of texts and answers (crates/edge_values/data/texts.txt, which says its own form). */
 #ifndef TABLE_H
 #define TABLE_H
 

@@ -1,26 +1,43 @@
-// Answers, states, reports and tables as parts of a line.
-use super::numbers::put;
-use super::numbers::put_signed;
+// Answers, states and reports as parts of a line.
 use monitor::Answer;
 use monitor::State;
-use pattern::number;
-use weighting::MARK;
+use vector_parts::numbers::put;
+use vector_parts::numbers::put_refusal;
+use vector_parts::numbers::put_signed;
 
 // What the report slices hold before a feed.
 pub const UNTOLD: u32 = 77;
 
 // "done", or the refusal's number.
-pub fn put_answer(a: Answer) {
+fn put_answer(a: Answer) {
     match a {
         Answer::Done => {
             io::write_all(1, b": done;");
         }
         Answer::Refused(why) => {
-            io::write_all(1, b": refused ");
-            put(number(why) as u64);
+            io::write_all(1, b": ");
+            put_refusal(why);
             io::write_all(1, b";");
         }
     }
+}
+
+// An opening's line.
+pub fn put_opened(label: &[u8], a: Answer, s: State) {
+    io::write_all(1, label);
+    put_answer(a);
+    put_state(s);
+    io::write_all(1, b"\n");
+}
+
+// A feed's line.
+pub fn put_fed(label: &[u8], a: Answer, scores: &[i64], lengths: &[u32], s: State) {
+    io::write_all(1, label);
+    put_answer(a);
+    put_reports(scores, lengths);
+    io::write_all(1, b";");
+    put_state(s);
+    io::write_all(1, b"\n");
 }
 
 // The ticks, then the last values.
@@ -58,31 +75,4 @@ pub fn put_reports(scores: &[i64], lengths: &[u32]) {
         put_report(scores[i], lengths[i]);
         i += 1;
     }
-}
-
-// An occupied cell as index:worth.
-fn put_cell(i: usize, worth: i64) {
-    if MARK < worth {
-        io::write_all(1, b" ");
-        put(i as u64);
-        io::write_all(1, b":");
-        put_signed(worth);
-    }
-}
-
-// The cells that are no marks.
-pub fn put_cells(table: &[i64]) {
-    let mut i: usize = 0;
-    while i < table.len() {
-        put_cell(i, table[i]);
-        i += 1;
-    }
-}
-
-pub fn put_tables(first: &[i64], second: &[i64]) {
-    io::write_all(1, b"  first");
-    put_cells(first);
-    io::write_all(1, b"; second");
-    put_cells(second);
-    io::write_all(1, b"\n");
 }
