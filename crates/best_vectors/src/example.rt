@@ -1,10 +1,10 @@
 // Document 01's pattern with its record and others.
 use super::patterns::no_end;
-use super::patterns::zero_guard;
 use super::told::told;
 use super::told::told_shown;
 use pattern::Pattern;
 use vector_parts::patterns::document;
+use vector_parts::patterns::zero_guard;
 use weighting::Weighing;
 
 // (piece 2 10), (piece 2 40), with two cells more than needed; every cell held 5. By margin the ends 2, 3 and 4 have 5, 5

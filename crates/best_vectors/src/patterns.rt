@@ -12,15 +12,6 @@ pub fn no_end() -> Pattern {
     )
 }
 
-// A guard that holds after no stay.
-pub fn zero_guard() -> Pattern {
-    pattern_of(
-        b"(pattern margin 1 1 1 4)\n\
-          (place both)\n\
-          (edge 0 0 (<= 0 0) (reset 0))\n",
-    )
-}
-
 // Runs of 2 or 3 ticks, cut into stays anyhow.
 pub fn two_or_three() -> Pattern {
     pattern_of(

@@ -8,14 +8,7 @@ use pattern::number;
 use price::Priced;
 use price::price;
 use vector_parts::patterns::pattern_of;
-
-fn at_most_zero() -> Pattern {
-    pattern_of(
-        b"(pattern margin 1 1 1 4)\n\
-          (place both)\n\
-          (edge 0 0 (<= 0 0) (reset 0))\n",
-    )
-}
+use vector_parts::patterns::zero_guard;
 
 fn at_most_one() -> Pattern {
     pattern_of(
@@ -58,7 +51,7 @@ fn tried(p: Pattern, short: u64, long: u64, end: u64) {
 
 pub fn run() {
     io::write_all(1, b"the guard (<= 0 0)\n");
-    tried(at_most_zero(), 10, 10, 0);
+    tried(zero_guard(), 10, 10, 0);
     io::write_all(1, b"the guard (<= 0 1)\n");
     tried(at_most_one(), 0, 10, 1);
 }

@@ -21,43 +21,43 @@ fn refused_values(s: State, p: Pattern, first: &mut [i64], second: &mut [i64]) -
     fed(b"value -1000001", a, p, first, second, 2, -1000001)
 }
 
-// A value too few, and one too many.
-fn refused_counts(s: State, p: Pattern, first: &mut [i64], second: &mut [i64]) -> State {
+// Report slices of 2 places for a piece of 2 ticks.
+fn with_values(
+    label: &[u8],
+    s: State,
+    p: Pattern,
+    first: &mut [i64],
+    second: &mut [i64],
+    values: &[i32],
+) -> State {
     let mut scores: [i64; 2] = [77; 2];
     let mut lengths: [u32; 2] = [77; 2];
-    let two: [i32; 2] = [40, 40];
-    let a = fed_into(
-        b"no values",
+    fed_into(
+        label,
         s,
         p,
         first,
         second,
         2,
-        &two[..0],
-        &mut scores,
-        &mut lengths,
-    );
-    fed_into(
-        b"two values",
-        a,
-        p,
-        first,
-        second,
-        2,
-        &two,
+        values,
         &mut scores,
         &mut lengths,
     )
 }
 
-// Either report slice one place short.
-fn refused_slices(s: State, p: Pattern, first: &mut [i64], second: &mut [i64]) -> State {
-    let mut scores: [i64; 2] = [77; 2];
+// A value too few, and one too many.
+fn refused_counts(s: State, p: Pattern, first: &mut [i64], second: &mut [i64]) -> State {
+    let two: [i32; 2] = [40, 40];
+    let a = with_values(b"no values", s, p, first, second, &two[..0]);
+    with_values(b"two values", a, p, first, second, &two)
+}
+
+// The scores one place short.
+fn few_scores(s: State, p: Pattern, first: &mut [i64], second: &mut [i64]) -> State {
+    let mut scores: [i64; 1] = [77; 1];
     let mut lengths: [u32; 2] = [77; 2];
-    let mut few_scores: [i64; 1] = [77; 1];
-    let mut few_lengths: [u32; 1] = [77; 1];
     let values: [i32; 1] = [40];
-    let a = fed_into(
+    fed_into(
         b"scores one short",
         s,
         p,
@@ -65,20 +65,32 @@ fn refused_slices(s: State, p: Pattern, first: &mut [i64], second: &mut [i64]) -
         second,
         2,
         &values,
-        &mut few_scores,
+        &mut scores,
         &mut lengths,
-    );
+    )
+}
+
+// The lengths one place short.
+fn few_lengths(s: State, p: Pattern, first: &mut [i64], second: &mut [i64]) -> State {
+    let mut scores: [i64; 2] = [77; 2];
+    let mut lengths: [u32; 1] = [77; 1];
+    let values: [i32; 1] = [40];
     fed_into(
         b"lengths one short",
-        a,
+        s,
         p,
         first,
         second,
         2,
         &values,
         &mut scores,
-        &mut few_lengths,
+        &mut lengths,
     )
+}
+
+fn refused_slices(s: State, p: Pattern, first: &mut [i64], second: &mut [i64]) -> State {
+    let a = few_scores(s, p, first, second);
+    few_lengths(a, p, first, second)
 }
 
 fn refused_feeds(s: State, p: Pattern, first: &mut [i64], second: &mut [i64]) -> State {

@@ -21,32 +21,27 @@ fn odd(label: &[u8], w: Weighing, s: State, value: i32, last_cell: i64) {
     fed_shown(label, s, document(w), &mut first, &mut second, 1, value);
 }
 
+fn odd_state(label: &[u8], ticks: u32, value: i32, unused: i32) {
+    odd(
+        label,
+        Weighing::Margin,
+        lent(ticks, value, unused),
+        10,
+        MARK,
+    );
+}
+
+fn odd_sum(label: &[u8], ticks: u32, last: i32, value: i32) {
+    odd(label, Weighing::Sum, lent(ticks, last, 0), value, MARK);
+}
+
 // In sum the stay meets a new piece where the values differ from the state's last ones, at ticks 0 too.
 fn odd_tables() {
-    io::write_all(1, b"odd tables\n");
-    odd(
-        b"margin, last 10",
-        Weighing::Margin,
-        lent(5, 10, 0),
-        10,
-        MARK,
-    );
-    odd(b"sum, last 10", Weighing::Sum, lent(5, 10, 0), 10, MARK);
-    odd(b"sum, last 40", Weighing::Sum, lent(5, 40, 0), 10, MARK);
-    odd(
-        b"sum, no ticks, value 0",
-        Weighing::Sum,
-        lent(0, 0, 0),
-        0,
-        MARK,
-    );
-    odd(
-        b"sum, no ticks, value 10",
-        Weighing::Sum,
-        lent(0, 0, 0),
-        10,
-        MARK,
-    );
+    odd_state(b"margin, last 10", 5, 10, 0);
+    odd_sum(b"sum, last 10", 5, 10, 10);
+    odd_sum(b"sum, last 40", 5, 40, 10);
+    odd_sum(b"sum, no ticks, value 0", 0, 0, 0);
+    odd_sum(b"sum, no ticks, value 10", 0, 0, 10);
 }
 
 // Cell 149 has the greatest length: nothing comes of it.
@@ -62,20 +57,13 @@ fn odd_cells() {
     odd_cell(b"cell -9223372036854775807", -9223372036854775807);
 }
 
-fn odd_state(label: &[u8], ticks: u32, value: i32, unused: i32) {
-    odd(
-        label,
-        Weighing::Margin,
-        lent(ticks, value, unused),
-        10,
-        MARK,
-    );
-}
-
-fn odd_states() {
+fn odd_ticks() {
     odd_state(b"ticks 2147483646", 2147483646, 10, 0);
     odd_state(b"ticks 2147483647", 2147483647, 10, 0);
     odd_state(b"ticks 2147483648", 2147483648, 10, 0);
+}
+
+fn odd_values() {
     odd_state(b"last value 1000001", 5, 1000001, 0);
     odd_state(b"last value -1000001", 5, -1000001, 0);
     odd_state(b"an unused channel", 5, 10, 1);
@@ -83,7 +71,9 @@ fn odd_states() {
 }
 
 pub fn run() {
+    io::write_all(1, b"odd tables\n");
     odd_tables();
     odd_cells();
-    odd_states();
+    odd_ticks();
+    odd_values();
 }

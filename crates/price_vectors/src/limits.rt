@@ -3,9 +3,9 @@ use super::lines::show;
 use super::patterns::loops;
 use super::patterns::speaking_end;
 use super::patterns::tested_loops;
-use super::patterns::zero_guard;
 use pattern::Pattern;
 use price::price;
+use vector_parts::patterns::zero_guard;
 use weighting::Weighing;
 
 // A record of one piece, 5 ticks of -3, and edge 0 after all of it.

@@ -45,11 +45,3 @@ pub fn speaking_end(w: Weighing) -> Pattern {
     );
     weighed(p, w)
 }
-
-pub fn zero_guard() -> Pattern {
-    pattern_of(
-        b"(pattern margin 1 1 1 4)\n\
-          (place both)\n\
-          (edge 0 0 (<= 0 0) (reset 0))\n",
-    )
-}

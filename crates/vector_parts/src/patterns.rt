@@ -38,3 +38,12 @@ pub fn document(w: Weighing) -> Pattern {
     );
     weighed(p, w)
 }
+
+// A guard that holds after no stay.
+pub fn zero_guard() -> Pattern {
+    pattern_of(
+        b"(pattern margin 1 1 1 4)\n\
+          (place both)\n\
+          (edge 0 0 (<= 0 0) (reset 0))\n",
+    )
+}
