@@ -1,8 +1,8 @@
 // Openings and feeds with what they answered, a line each.
 use super::lines::put_fed;
 use super::lines::put_opened;
-use feed::feed;
-use feed::open;
+use lent_state::feed_through;
+use lent_state::open_through;
 use monitor::State;
 use pattern::Pattern;
 use vector_parts::tables::put_tables;
@@ -24,7 +24,7 @@ pub fn lent(ticks: u32, value: i32, unused: i32) -> State {
 }
 
 pub fn opened(label: &[u8], p: Pattern, first: &mut [i64], second: &mut [i64]) -> State {
-    let after = open(used(), p, first, second);
+    let after = open_through(used(), p, first, second);
     let answer = after.answer;
     let state = after.state;
     put_opened(label, answer, state);
@@ -43,7 +43,7 @@ pub fn fed_into(
     scores: &mut [i64],
     lengths: &mut [u32],
 ) -> State {
-    let after = feed(s, p, first, second, duration, values, scores, lengths);
+    let after = feed_through(s, p, first, second, duration, values, scores, lengths);
     let answer = after.answer;
     let state = after.state;
     put_fed(label, answer, scores, lengths, state);

@@ -2,8 +2,8 @@
 use super::calls::used;
 use super::lines::put_reports;
 use super::lines::put_state;
-use feed::feed;
-use feed::open;
+use lent_state::feed_through;
+use lent_state::open_through;
 use monitor::State;
 use pattern::Pattern;
 use vector_parts::patterns::document;
@@ -15,7 +15,7 @@ fn one_tick(s: State, p: Pattern, first: &mut [i64], second: &mut [i64], value: 
     let mut scores: [i64; 1] = [77; 1];
     let mut lengths: [u32; 1] = [77; 1];
     let values: [i32; 1] = [value];
-    let after = feed(s, p, first, second, 1, &values, &mut scores, &mut lengths);
+    let after = feed_through(s, p, first, second, 1, &values, &mut scores, &mut lengths);
     put_reports(&scores, &lengths);
     after.state
 }
@@ -25,7 +25,7 @@ fn two_ticks(s: State, p: Pattern, first: &mut [i64], second: &mut [i64], value:
     let mut scores: [i64; 2] = [77; 2];
     let mut lengths: [u32; 2] = [77; 2];
     let values: [i32; 1] = [value];
-    let after = feed(s, p, first, second, 2, &values, &mut scores, &mut lengths);
+    let after = feed_through(s, p, first, second, 2, &values, &mut scores, &mut lengths);
     put_reports(&scores, &lengths);
     after.state
 }
@@ -55,7 +55,7 @@ fn both_pieces(
     ten_whole: bool,
     forty_whole: bool,
 ) -> State {
-    let none = open(used(), p, first, second);
+    let none = open_through(used(), p, first, second);
     let s = none.state;
     let half = piece(s, p, first, second, 10, ten_whole);
     piece(half, p, first, second, 40, forty_whole)
