@@ -6,6 +6,7 @@ ghost use Rattle.record_text.specs.Text.{recordRefusal};
 ghost use Rattle.record_read.specs.Line.{limit, noValues, addValue, valueAt, valueTurn, valuesAt, lineAt, pieceAt};
 ghost use Rattle.record_read.specs.Check.{checkedOf, lineSound, turnOf, finishOf};
 use pattern::Refusal;
+use text_reader::Reader;
 use text_scan::Found;
 use text_scan::Integer;
 use text_scan::Number;
@@ -176,12 +177,28 @@ fn line_at(text: &[u8], at: usize) -> LineRead
     }
 }
 
+// The line at which a reader stands.
+fn next_line<'a>(r: Reader<'a>) -> LineRead
+    requires { ⌜ r .at ≤ length (now (r .text)) ⌝ }
+    ensures { λ l. ⌜ l ≡ lineAt (now (r .entry .text)) (r .entry .at) ⌝ }
+{
+    line_at(r.text, r.at)
+}
+
+// The same for callers that have the text and a number.
+fn line_from(text: &[u8], at: usize) -> LineRead
+    requires { ⌜ at ≤ length (now text) ⌝ }
+    ensures { λ r. ⌜ r ≡ lineAt (now (text .entry)) at ⌝ }
+{
+    next_line(text_reader::reader_at(text, at))
+}
+
 // The piece whose line begins at a position.
 pub fn piece_at(text: &[u8], at: usize) -> PieceRead
     requires { ⌜ at ≤ length (now text) ⌝ }
     ensures { λ r. ⌜ r ≡ pieceAt (now (text .entry)) at ⌝ }
 {
-    let line = line_at(text, at);
+    let line = line_from(text, at);
     let duration = line.duration;
     let list = line.values;
     let values = list.values;
@@ -217,7 +234,7 @@ fn turn(text: &[u8], s: Walk, channels: u8) -> Walk
     requires { ⌜ s .at ≤ length (now text) ⌝ }
     ensures { λ r. ⌜ r ≡ turnOf channels (now (text .entry)) s ⌝ }
 {
-    let line = line_at(text, s.at);
+    let line = line_from(text, s.at);
     let fine = line_sound(line, channels);
     let ticks = held_sum(s.ticks, line.duration);
     Walk {
