@@ -19,7 +19,7 @@ use Rattle.pattern_read.specs.declared.Stage as stage
 use Rattle.pattern_read.specs.declared.State.{State}
 use Rattle.pattern_read.specs.declared.PatternRead.{PatternRead}
 use Rattle.pattern_read.specs.declared.Verdict as verdict
-use Rattle.pattern_read.specs.Turn.{refusedAt, headerFine, headedAt, headerTurned, headerTurn, putPlace, putEdge, ruled, placeVerdict, placeFrom, placeState, edgeVerdict, edgeFrom, edgeState, edgeTurn, placeTurn, turned, turnOf, refusedOf, settledOf, finished, finishOf}
+use Rattle.pattern_read.specs.Turn.{refusedAt, headerFine, headedAt, headerTurned, headerTurn, putPlace, putEdge, ruled, placeVerdict, placeFrom, placeState, edgeVerdict, edgeFrom, edgeState, edgeTurn, placeTurn, refusedOf, settledOf, finished, finishOf}
 
 yes : {A : Type 0} (b : Bool) (x y r : A) → b ≡ true → r ≡ x → r ≡ cond b x y
 yes b x y r e h = rw e h
@@ -87,11 +87,6 @@ module _ (t : Bytes) (at : ℕ) (p : Pattern) (r : State) where
   place-absent line e f h = rw (ap (λ (x : PlaceRead). x .found) (sym e) ∙ f) h
 
 -- ---- by the stage
-
-module _ (t : Bytes) (s : State) (x : stage.Stage) (is : s .stage ≡ x) where
-  pub turn-by : (r : State) → r ≡ turned t x (s .at) (s .pattern) → r ≡ turnOf t s
-  unfolding turnOf
-  turn-by r h = rw is h
 
 module _ (s : State) (x : stage.Stage) (is : s .stage ≡ x) where
   pub finish-by : (r : PatternRead) → r ≡ finished x (s .pattern) → r ≡ finishOf s

@@ -22,6 +22,7 @@ ghost use Rattle.pattern_read.specs.Turn.{
   edgeState,
   edgeTurn,
   placeTurn,
+  turned,
   turnOf,
   refusedOf,
   settledOf,
@@ -43,6 +44,7 @@ use pattern::Place;
 use pattern::Refusal;
 use pattern::Sign;
 use pattern::Test;
+use text_reader::Reader;
 use weighting::Weighing;
 
 pub enum Outcome {
@@ -377,19 +379,32 @@ fn place_turn(text: &[u8], at: usize, p: Pattern) -> State
 }
 
 // One line more.
-fn turn(text: &[u8], s: State) -> State
-    requires { ⌜ s .at ≤ length (now text) ⌝ }
-    ensures { λ r. ⌜ r ≡ turnOf (now (text .entry)) s ⌝ }
+fn turn(text: &[u8], at: usize, stage: Stage, p: Pattern) -> State
+    requires { ⌜ at ≤ length (now text) ⌝ }
+    ensures { λ r. ⌜ r ≡ turned (now (text .entry)) stage at p ⌝ }
 {
-    let at = s.at;
-    let stage = s.stage;
-    let p = s.pattern;
     match stage {
         Stage::Header => header_turn(text, at),
         Stage::Places => place_turn(text, at, p),
         Stage::Edges => edge_turn(text, at, p),
         Stage::Refused(cause) => refused_at(text.len(), cause),
     }
+}
+
+// The line at which a reader stands.
+fn next_line<'a>(r: Reader<'a>, stage: Stage, p: Pattern) -> State
+    requires { ⌜ r .at ≤ length (now (r .text)) ⌝ }
+    ensures { λ s. ⌜ s ≡ turned (now (r .entry .text)) stage (r .entry .at) p ⌝ }
+{
+    turn(r.text, r.at, stage, p)
+}
+
+// The same for callers that have the text and where they stand in it.
+fn line_from(text: &[u8], s: State) -> State
+    requires { ⌜ s .at ≤ length (now text) ⌝ }
+    ensures { λ r. ⌜ r ≡ turnOf (now (text .entry)) s ⌝ }
+{
+    next_line(text_reader::reader_at(text, s.at), s.stage, s.pattern)
 }
 
 fn refused(cause: Refusal) -> PatternRead
@@ -449,7 +464,7 @@ pub fn read(text: &[u8]) -> PatternRead
     }
     let mut s = start();
     while s.at < text.len() {
-        s = turn(text, s);
+        s = line_from(text, s);
     }
     finish(s)
 }

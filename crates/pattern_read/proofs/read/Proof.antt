@@ -17,7 +17,7 @@ Inv-loop text s₀ s = ((s .at ≤ length text) × (length text ≤ 8_192)) × S
 abbrev μ-loop : tie.MeasureT-loop
 μ-loop text s₀ s = length text - s .at
 
-turn : (c : tie.After-turn Inv-loop μ-loop) → Onward (c .before .before .before .before .before .before .before .args .text .now) (readLines none (linesOf (c .before .before .before .before .before .before .before .args .text .now))) (c .before .before .before .loop .s .at) (turnOf (c .before .before .before .before .before .before .before .args .text .now) (c .before .before .before .loop .s))
+turn : (c : tie.After-line-from Inv-loop μ-loop) → Onward (c .before .before .before .before .before .before .before .args .text .now) (readLines none (linesOf (c .before .before .before .before .before .before .before .args .text .now))) (c .before .before .before .loop .s .at) (turnOf (c .before .before .before .before .before .before .before .args .text .now) (c .before .before .before .loop .s))
 turn c = turn-on (c .before .before .before .before .before .before .before .args .text .now) (readLines none (linesOf (c .before .before .before .before .before .before .before .args .text .now))) (c .before .before .before .loop .s) (c .before .if2 .taken) (c .before .before .before .loop .inv .1)
 
 refused-requires : tie.Need-refused-requires Inv-loop μ-loop
@@ -37,14 +37,14 @@ loop-holds c =
     let h : startState .at ≤ length t = zero-le in
     rw (c .start .ensures) ((h, c .before .if1 .left), start-stands t)
 
-turn-requires : tie.Need-turn-requires Inv-loop μ-loop
-turn-requires c κs = c .before .before .loop .inv .0 .0
+line-from-requires : tie.Need-line-from-requires Inv-loop μ-loop
+line-from-requires c κs = c .before .before .loop .inv .0 .0
 
 loop-less : tie.Need-loop-less Inv-loop μ-loop
-loop-less c = let l = c .before .before .before .loop in let h = turn c .further in let w = turn c .within in rw (c .turn .ensures) (omega arith)
+loop-less c = let l = c .before .before .before .loop in let h = turn c .further in let w = turn c .within in rw (c .line-from .ensures) (omega arith)
 
 loop-again : tie.Need-loop-again Inv-loop μ-loop
-loop-again c = rw (c .turn .ensures) ((turn c .within, c .before .before .before .loop .inv .0 .1), turn c .stands)
+loop-again c = rw (c .line-from .ensures) ((turn c .within, c .before .before .before .loop .inv .0 .1), turn c .stands)
 
 finish-requires : tie.Need-finish-requires Inv-loop μ-loop
 finish-requires c κs = tt
@@ -66,7 +66,7 @@ read-spec =
     returns
     start-requires
     loop-holds
-    turn-requires
+    line-from-requires
     loop-less
     loop-again
     finish-requires

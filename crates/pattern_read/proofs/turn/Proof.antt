@@ -1,5 +1,4 @@
 -- `turn` meets its contract.
-use Rattle.pattern_read.proofs.TurnLaws.{turn-by}
 use borrow.Author.Needs.{needs}
 use Rattle.pattern_read.proofs.turn.Statement.{statement}
 use Rattle.pattern_read.proofs.turn.Tie as tie
@@ -29,16 +28,16 @@ refused-at-requires : tie.Need-refused-at-requires
 refused-at-requires c κs = search needs
 
 returns : tie.Need-returns
-returns c = turn-by _ (c .before .before .before .before .before .args .s) _ (c .before .enum-told .given .1) _ (c .header-turn .ensures)
+returns c = rw (c .before .enum-told .given .1) (c .header-turn .ensures)
 
 returns-2 : tie.Need-returns-2
-returns-2 c = turn-by _ (c .before .before .before .before .before .args .s) _ (c .before .enum-told2 .given .1) _ (c .place-turn .ensures)
+returns-2 c = rw (c .before .enum-told2 .given .1) (c .place-turn .ensures)
 
 returns-3 : tie.Need-returns-3
-returns-3 c = turn-by _ (c .before .before .before .before .before .args .s) _ (c .before .enum-told3 .given .1) _ (c .edge-turn .ensures)
+returns-3 c = rw (c .before .enum-told3 .given .1) (c .edge-turn .ensures)
 
 returns-4 : tie.Need-returns-4
-returns-4 c = turn-by _ (c .before .before .before .before .before .before .args .s) _ (c .before .before .stage .given .1) _ (c .refused-at .ensures)
+returns-4 c = rw (c .before .before .stage .given .1) (c .refused-at .ensures)
 
 pub turn-spec : {M : Type 1} → statement M
 turn-spec =

@@ -1,0 +1,2 @@
+-- Laws: a reader taken apart.
+pub mod Apart
