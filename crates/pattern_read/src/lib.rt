@@ -4,7 +4,8 @@ ghost use mathlib.Core.Bool.{_&&_};
 ghost use Prim.Native.Nat.{_≤_};
 ghost use lib.Dec.{leb, ltb};
 ghost use lib.ListN.{length};
-ghost use Rattle.pattern_text.specs.Text.{readOf};
+ghost use mathlib.Core.Option.{none};
+ghost use Rattle.pattern_text.specs.Text.{linesOf, readLines, readOf};
 ghost use Rattle.pattern_read.specs.Reading.{noPattern, readingOf};
 ghost use Rattle.pattern_read.specs.Turn.{
   verdictOf,
@@ -399,14 +400,6 @@ fn next_line<'a>(r: Reader<'a>, stage: Stage, p: Pattern) -> State
     turn(r.text, r.at, stage, p)
 }
 
-// The same for callers that have the text and where they stand in it.
-fn line_from(text: &[u8], s: State) -> State
-    requires { ⌜ s .at ≤ length (now text) ⌝ }
-    ensures { λ r. ⌜ r ≡ turnOf (now (text .entry)) s ⌝ }
-{
-    next_line(text_reader::reader_at(text, s.at), s.stage, s.pattern)
-}
-
 fn refused(cause: Refusal) -> PatternRead
     ensures { λ r. ⌜ r ≡ refusedOf cause ⌝ }
 {
@@ -455,6 +448,19 @@ fn start() -> State
     }
 }
 
+// One reader walks the text from line to line, to its end.
+fn read_lines(text: &[u8]) -> State
+    ensures { λ s. ⌜ finishOf s ≡ readingOf (readLines none (linesOf (now (text .entry)))) ⌝ }
+{
+    let mut r = text_reader::reader_at(text, 0);
+    let mut s = start();
+    while text_reader::unread(r) {
+        s = next_line(r, s.stage, s.pattern);
+        r = text_reader::moved(r, s.at);
+    }
+    s
+}
+
 // Read a pattern: 1, then the first faulty line decides.
 pub fn read(text: &[u8]) -> PatternRead
     ensures { λ r. ⌜ r ≡ readingOf (readOf (now (text .entry))) ⌝ }
@@ -462,9 +468,5 @@ pub fn read(text: &[u8]) -> PatternRead
     if 8_192 < text.len() {
         return refused(Refusal::TextTooLong);
     }
-    let mut s = start();
-    while s.at < text.len() {
-        s = line_from(text, s);
-    }
-    finish(s)
+    finish(read_lines(text))
 }
