@@ -24,7 +24,6 @@ ghost use Rattle.pattern_read.specs.Turn.{
   edgeTurn,
   placeTurn,
   turned,
-  turnOf,
   refusedOf,
   settledOf,
   finishOf,
