@@ -3,7 +3,7 @@ use pattern::Pattern;
 use pattern::clocks::radix;
 ghost use mathlib.Core.Path.{_≡_};
 ghost use mathlib.Core.Bool.{true};
-ghost use Prim.Native.Nat.{_+_, _-_, _<_, min};
+ghost use Prim.Native.Nat.{_+_, _-_, _≤_, _<_, min};
 ghost use Rattle.pattern.specs.Sound.{soundOf};
 ghost use Rattle.cells.specs.Layout.{layoutOf, Laid};
 ghost use Rattle.cells.specs.Index.{codeOf, clocksAt, ticked, Within, blockAt, Placed};
@@ -61,7 +61,7 @@ pub fn tick_clocks(l: Layout, clocks: [u32; 4]) -> [u32; 4]
 }
 
 // The clocks of the next cell of a block, from those of cell k: no division.
-pub fn next_clocks(l: Layout, clocks: [u32; 4], k: usize) -> [u32; 4]
+fn next_clocks(l: Layout, clocks: [u32; 4], k: usize) -> [u32; 4]
     requires { ⌜ (Laid l) × (k < l .block) × (clocks ≡ clocksAt (l .radices) k) ⌝ }
     ensures { λ r. ⌜ r ≡ clocksAt (l .radices) (k + 1) ⌝ }
 {
@@ -77,6 +77,34 @@ pub fn next_clocks(l: Layout, clocks: [u32; 4], k: usize) -> [u32; 4]
         [a, b + 1, 0, 0]
     } else {
         [a + 1, 0, 0, 0]
+    }
+}
+
+// The clocks of cell k of a block.
+fn clocks_at(l: Layout, k: usize) -> [u32; 4]
+    requires { ⌜ (Laid l) × (k < l .block) ⌝ }
+    ensures { λ r. ⌜ r ≡ clocksAt (l .radices) k ⌝ }
+{
+    let s = l.radices[1] as usize;
+    let t = l.radices[2] as usize;
+    let u = l.radices[3] as usize;
+    let c = k / u;
+    let b = c / t;
+    let a = b / s;
+    [a as u32, (b % s) as u32, (c % t) as u32, (k % u) as u32]
+}
+
+// The clocks of cell `to` of a block, from those of cell k: a division only where cells were left out.
+pub fn clocks_to(l: Layout, clocks: [u32; 4], k: usize, to: usize) -> [u32; 4]
+    requires { ⌜ (Laid l) × (k ≤ to) × (to < l .block) × (clocks ≡ clocksAt (l .radices) k) ⌝ }
+    ensures { λ r. ⌜ r ≡ clocksAt (l .radices) to ⌝ }
+{
+    if to == k {
+        clocks
+    } else if to == k + 1 {
+        next_clocks(l, clocks, k)
+    } else {
+        clocks_at(l, to)
     }
 }
 

@@ -12,7 +12,6 @@ use lib.Dec.{T, leb}
 use lib.ListN.{length, take, drop, getD, length-map, length-take, List·getD-map}
 use lib.Seq.{getD-take}
 use lib.IntN.{ℤ, pos, natAbs}
-use lib.Signed.{ltZ}
 use Rattle.integers.specs.Equal.{eqZ}
 use Rattle.integers.proofs.Equal.{eq-true}
 use Rattle.weighting.specs.declared.Weighing.{Weighing}
@@ -22,6 +21,7 @@ use Rattle.weighting.specs.Cell.{mark, heldIn}
 use Rattle.weighting.proofs.Cell.{heldIn-other}
 use Rattle.pattern.specs.declared.Pattern.{Pattern}
 use Rattle.pattern.specs.declared.Place.{Place}
+use Rattle.pattern.specs.declared.Edge.{Edge}
 use Rattle.pattern.specs.Slots.{all}
 use Rattle.pattern.specs.Sound.{noPlace, soundOf}
 use Rattle.pattern.specs.InUse.{placeAt}
@@ -45,13 +45,14 @@ use Rattle.cells.proofs.Blocks.{row-next}
 use Rattle.table.specs.declared.View.{View}
 use Rattle.table.specs.declared.report.Report.{Report}
 use Rattle.table.specs.Moves.{cellAt, tickOf, openOf, gainAt}
-use Rattle.table.specs.Reports.{noReport, noted, blockNoted, placeNoted, endsNoted, lengthsNoted, reportOf}
+use Rattle.table.specs.Reports.{noted, toldOf}
+use Rattle.table.proofs.Told.{told-keeps}
 use Rattle.table.specs.Asks.{Sized, Known, Whole, Ticking, Filed}
 use Rattle.table_laws.specs.Meaning.{resultOf, About, Seen, Viewed}
 use Rattle.table_laws.specs.Patterns.{Flags}
 use Rattle.table_laws.proofs.Rows.{tick-keeps-whole, tick-leaves-further, open-leaves-further}
 use Rattle.table_laws.proofs.Tick.{open-is-opening, tick-is-next}
-use Rattle.table_laws.proofs.Report.{report-is-report}
+use Rattle.table_laws.proofs.Report.{told-is-report}
 use Rattle.table_laws.proofs.Patterns.{about-pattern, known-pattern}
 use Rattle.monitor.specs.Cells.{layout, stateAt, indexOf, cellStates, isCell, heldBy, written, upTo}
 use Rattle.monitor.specs.Tick as monitor
@@ -73,39 +74,19 @@ no e = let z : _≡_ {A = ℕ} 0 1 = cc in omega arith
 
 noted-blank : (w : Weighing) (r : Report) (v : ℤ) (n : ℕ) → Blank r → Blank (noted w r v n)
 unfolding noted
-noted-blank w r v n h = by (ltZ mark v) (r .found) (weightingOf w .order .atLeast v (r .score)) refl
+noted-blank w r v n h = by (r .found) (weightingOf w .order .atLeast v (r .score))
   where
     new : Report
     new = record { found = true; score = v; length = n }
 
-    by : (x y z : Bool) → r .found ≡ y → Blank (cond x (cond y (cond z new r) new) r)
-    by true true true e q = absurd (no q)
-    by true true false e q = h q
-    by true false z e q = absurd (no q)
-    by false y z e q = h q
+    by : (y z : Bool) → Blank (cond y (cond z new r) new)
+    by true true q = absurd (no q)
+    by true false q = h q
+    by false z q = absurd (no q)
 
-block-blank : (w : Weighing) (t : List ℤ) (a n k : ℕ) (r : Report) → Blank r → Blank (blockNoted w t a n k r)
-unfolding blockNoted
-block-blank w t a n zero r h = h
-block-blank w t a n (suc k) r h = noted-blank w (blockNoted w t a n k r) _ n (block-blank w t a n k r h)
-
-ends-blank : (l : Layout) (w : Weighing) (ends : List Bool) (t : List ℤ) (n q : ℕ) (r : Report) → Blank r → Blank (endsNoted l w ends t n q r)
-unfolding endsNoted placeNoted
-ends-blank l w ends t n zero r h = h
-ends-blank l w ends t n (suc q) r h = by (getD ends q false) (ends-blank l w ends t n q r h)
-  where
-    by : (x : Bool) → Blank (endsNoted l w ends t n q r)
-        → Blank (cond x (blockNoted w t (blockAt l n 0 q) n (l .block) (endsNoted l w ends t n q r)) (endsNoted l w ends t n q r))
-    by true k = block-blank w t (blockAt l n 0 q) n (l .block) (endsNoted l w ends t n q r) k
-    by false k = k
-
-lengths-blank : (l : Layout) (w : Weighing) (ends : List Bool) (t : List ℤ) (m : ℕ) → Blank (lengthsNoted l w ends t m)
-unfolding lengthsNoted
-lengths-blank l w ends t zero = λ e. (refl, refl)
-lengths-blank l w ends t (suc m) = ends-blank l w ends t (l .high - m) (l .places) (lengthsNoted l w ends t m) (lengths-blank l w ends t m)
-
-unfound : (l : Layout) (w : Weighing) (ends : List Bool) (low : ℕ) (t : List ℤ) → Blank (reportOf l w ends low t)
-unfound l w ends low t = lengths-blank l w ends t (l .high + 1 - low)
+unfound : (l : Layout) (w : Weighing) (v : View) (es : List Edge) (count : ℕ) (ends : List Bool) (low : ℕ) (t : List ℤ) → Blank (toldOf l w v es count ends low t)
+unfound l w v es count ends low t =
+    told-keeps Blank l w (λ r x n h k. noted-blank w r x n k) v es count ends low t (λ e. (refl, refl))
 
 said-score : (r : Report) → Blank r → r .score ≡ scoreIn (resultOf r)
 said-score r h = by (r .found) refl
@@ -270,20 +251,23 @@ module _ (p : Pattern) (sound : soundOf p ≡ true) where
 
     -- ---- reports
 
-    report-found : (i : ℕ) → resultOf (reportOf (layout p) (p .weighing) (kindFlags true p) (p .low) (to i)) ≡ monitor.reportOf p (meant i)
+    -- the report of tick i is that of the table after it
+    report-found : (i : ℕ) → resultOf (reportIn ground (viewIn p vs new) (viewIn p vs false) t i) ≡ monitor.reportOf p (meant (suc i))
     unfolding layoutOf
     report-found i =
-        report-is-report (layout p) (p .weighing) (kindFlags true p) (p .edges) (p .edgecount) (kindFlags false p) (heldAutomaton p) about (p .low) (to i)
-        (let o = parts p sound .ordered in omega arith)
-        (record { laid = laid p sound; inside = let e = cells-are p sound in let l = length-to i in omega arith })
-        (whole-to i) (cellStates p) (heldBy p (to i)) (seen-to i)
-        ∙ reports-only-cells (weightingOf (p .weighing)) (heldAutomaton p) sameClocks (p .high) (cellStates p) (p .low) (heldBy p (to i)) (meant i) (holds-to i)
+        told-is-report (layout p) (p .weighing) (viewAt (viewIn p vs new) (viewIn p vs false) i) (p .edges) (p .edgecount) (kindFlags false p) (kindFlags true p)
+        (heldAutomaton p) about sameClocks (p .low) (parts p sound .someLow) (to i) (ticking-to i) (cellStates p) (heldBy p (to i)) (seen-to i) (pieceView p new vs i) (viewed-at i)
+        ∙ reports-only-cells (weightingOf (p .weighing)) (heldAutomaton p) sameClocks (p .high) (cellStates p) (p .low) (next (weightingOf (p .weighing)) (heldAutomaton p) sameClocks (p .high) (cellStates p) (pieceView p new vs i) (heldBy p (to i))) (meant (suc i))
+        (only-cells (weightingOf (p .weighing)) (heldAutomaton p) sameClocks (p .high) (cellStates p) (λ _. pieceView p new vs i) (heldBy p (to i)) (meant i) (holds-to i) 1)
+
+    blank : (i : ℕ) → Blank (reportIn ground (viewIn p vs new) (viewIn p vs false) t i)
+    blank i = unfound (layout p) (p .weighing) (viewAt (viewIn p vs new) (viewIn p vs false) i) (p .edges) (p .edgecount) (kindFlags true p) (p .low) (to i)
 
     pub score-to : (i : ℕ) → reportIn ground (viewIn p vs new) (viewIn p vs false) t i .score ≡ scoreIn (monitor.reportOf p (meant (suc i)))
-    score-to i = said-score (reportIn ground (viewIn p vs new) (viewIn p vs false) t i) (unfound (layout p) (p .weighing) (kindFlags true p) (p .low) (to (suc i))) ∙ ap scoreIn (report-found (suc i))
+    score-to i = said-score (reportIn ground (viewIn p vs new) (viewIn p vs false) t i) (blank i) ∙ ap scoreIn (report-found i)
 
     pub length-told : (i : ℕ) → reportIn ground (viewIn p vs new) (viewIn p vs false) t i .length ≡ lengthIn (monitor.reportOf p (meant (suc i)))
-    length-told i = said-length (reportIn ground (viewIn p vs new) (viewIn p vs false) t i) (unfound (layout p) (p .weighing) (kindFlags true p) (p .low) (to (suc i))) ∙ ap lengthIn (report-found (suc i))
+    length-told i = said-length (reportIn ground (viewIn p vs new) (viewIn p vs false) t i) (blank i) ∙ ap lengthIn (report-found i)
 
     -- ---- a piece, told
 
@@ -293,7 +277,6 @@ module _ (p : Pattern) (sound : soundOf p ≡ true) where
         record {
           first = ticking-to 0;
           later = view-known vs fine false;
-          low = let o = parts p sound .ordered in omega arith;
           scoresLong = a;
           lengthsLong = b;
         }

@@ -11,7 +11,7 @@ use Rattle.cells.specs.Layout.{cellsIn}
 use Rattle.table.specs.declared.View.{View}
 use Rattle.table.specs.declared.report.Report.{Report}
 use Rattle.table.specs.Moves.{tickOf}
-use Rattle.table.specs.Reports.{reportOf}
+use Rattle.table.specs.Reports.{toldOf}
 use Rattle.table.specs.Asks.{Known, Whole, Ticking}
 use Rattle.table_laws.proofs.Rows.{tick-keeps-whole, tick-leaves-further}
 use Rattle.monitor.specs.Cells.{from, upTo}
@@ -59,8 +59,8 @@ module _ (g : Ground) (v u : View) (t scores : List ℤ) (lengths : List ℕ) (d
 
     pub told-more : (i : ℕ) (f s f′ s′ : List ℤ) (n n′ : List ℕ) → Told i f s n → i < duration
         → f′ ≡ tickOf (g .layout) (g .weighing) (viewAt v u i) (g .edges) (g .count) (g .starts) f
-        → s′ ≡ set s i (reportOf (g .layout) (g .weighing) (g .ends) (g .low) (tickOf (g .layout) (g .weighing) (viewAt v u i) (g .edges) (g .count) (g .starts) f) .score)
-        → n′ ≡ set n i (reportOf (g .layout) (g .weighing) (g .ends) (g .low) (tickOf (g .layout) (g .weighing) (viewAt v u i) (g .edges) (g .count) (g .starts) f) .length)
+        → s′ ≡ set s i (toldOf (g .layout) (g .weighing) (viewAt v u i) (g .edges) (g .count) (g .ends) (g .low) f .score)
+        → n′ ≡ set n i (toldOf (g .layout) (g .weighing) (viewAt v u i) (g .edges) (g .count) (g .ends) (g .low) f .length)
         → Told (i + 1) f′ s′ n′
     unfolding tableTo scoresTo lengthsTo
     told-more i f s f′ s′ n n′ k l a b c =
@@ -73,8 +73,8 @@ module _ (g : Ground) (v u : View) (t scores : List ℤ) (lengths : List ℕ) (d
         record {
           low = omega arith;
           first-is = a ∙ next ∙ ap (tableTo g v u t) (sym (add-one i));
-          scores-are = b ∙ rw (next, k .scores-are) (made-more (λ j. reportIn g v u t j .score) scores i (pos 0) (omega arith));
-          lengths-are = c ∙ rw (next, k .lengths-are) (made-more (λ j. reportIn g v u t j .length) lengths i 0 (omega arith));
+          scores-are = b ∙ rw (k .first-is, k .scores-are) (made-more (λ j. reportIn g v u t j .score) scores i (pos 0) (omega arith));
+          lengths-are = c ∙ rw (k .first-is, k .lengths-are) (made-more (λ j. reportIn g v u t j .length) lengths i 0 (omega arith));
           whole = subst (λ (x : List ℤ). Whole x (g .layout)) (sym a) (tick-keeps-whole (g .layout) (g .weighing) (viewAt v u i) (g .edges) (g .count) (g .starts) (g .ends) f (ticking-at i f s n k));
           first-long = ap length a ∙ tick-leaves-further (g .layout) (g .weighing) (viewAt v u i) (g .edges) (g .count) (g .starts) (g .ends) f (ticking-at i f s n k) .0 ∙ k .first-long;
           scores-long = ap length b ∙ length-set s i _ ∙ k .scores-long;

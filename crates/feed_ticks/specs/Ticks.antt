@@ -16,7 +16,7 @@ use Rattle.cells.specs.declared.Layout.{Layout}
 use Rattle.table.specs.declared.View.{View}
 use Rattle.table.specs.declared.report.Report.{Report}
 use Rattle.table.specs.Moves.{tickOf}
-use Rattle.table.specs.Reports.{reportOf}
+use Rattle.table.specs.Reports.{toldOf}
 use Rattle.table.specs.Asks.{Known, Ticking}
 use Rattle.monitor.specs.Cells.{upTo}
 
@@ -59,9 +59,10 @@ tableTo g v u t zero = t
 tableTo g v u t (suc i) =
     tickOf (g .layout) (g .weighing) (viewAt v u i) (g .edges) (g .count) (g .starts) (tableTo g v u t i)
 
--- The report of the tick i.
+-- The report of tick i.
 abbrev pub reportIn : Ground → View → View → List ℤ → ℕ → Report
-reportIn g v u t i = reportOf (g .layout) (g .weighing) (g .ends) (g .low) (tableTo g v u t (suc i))
+reportIn g v u t i =
+    toldOf (g .layout) (g .weighing) (viewAt v u i) (g .edges) (g .count) (g .ends) (g .low) (tableTo g v u t i)
 
 -- The report slices once n ticks are told.
 unfoldable pub scoresTo : Ground → View → View → List ℤ → List ℤ → ℕ → List ℤ
@@ -79,6 +80,5 @@ repeated l from (suc n) a = set (repeated l from n a) (from + n) a
 pub record Telling (g : Ground) (v u : View) (t : List ℤ) (scores lengths duration : ℕ) : Type 0 where
   pub first : Ticking t (g .layout) v (g .edges) (g .count)
   pub later : Known (g .layout) u (g .edges) (g .count)
-  pub low : g .low ≤ g .layout .high + 1
   pub scoresLong : duration ≤ scores
   pub lengthsLong : duration ≤ lengths

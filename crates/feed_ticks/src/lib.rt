@@ -9,7 +9,6 @@ use pattern::distance::place_worth;
 use pattern::is_end;
 use pattern::is_start;
 use table::View;
-use table::report::report_of;
 use table::tick;
 use weighting::Weighing;
 use weighting::unit;
@@ -19,7 +18,7 @@ ghost use Prim.Native.Nat.{_+_, _-_, _≤_, _<_};
 ghost use lib.ListN.{length, getD, set};
 ghost use lib.IntN.{pos};
 ghost use Rattle.table.specs.Moves.{tickOf};
-ghost use Rattle.table.specs.Reports.{reportOf};
+ghost use Rattle.table.specs.Reports.{toldOf};
 ghost use Rattle.table.specs.Asks.{Ticking};
 ghost use Rattle.feed_ticks.specs.Ticks.{kindFlag, kindFlags, viewIn, viewAt, groundOf};
 ghost use Rattle.feed_ticks.specs.Ticks.{Telling, tableTo, scoresTo, lengthsTo, repeated};
@@ -107,16 +106,14 @@ fn tell(
     ends: [bool; 16],
     low: usize,
 )
-    requires { ⌜ (Ticking (now first) l v edges count)
-        × (low ≤ l .high + 1) × (i < length (now scores)) × (i < length (now lengths)) ⌝ }
+    requires { ⌜ (Ticking (now first) l v edges count) × (i < length (now scores)) × (i < length (now lengths)) ⌝ }
     ensures { λ _. ⌜ now (first .exit) ≡ tickOf l w v edges count starts (now (first .entry)) ⌝ }
     ensures { λ _. ⌜ now (scores .exit)
-        ≡ set (now (scores .entry)) i (reportOf l w ends low (tickOf l w v edges count starts (now (first .entry))) .score) ⌝ }
+        ≡ set (now (scores .entry)) i (toldOf l w v edges count ends low (now (first .entry)) .score) ⌝ }
     ensures { λ _. ⌜ now (lengths .exit)
-        ≡ set (now (lengths .entry)) i (reportOf l w ends low (tickOf l w v edges count starts (now (first .entry))) .length) ⌝ }
+        ≡ set (now (lengths .entry)) i (toldOf l w v edges count ends low (now (first .entry)) .length) ⌝ }
 {
-    tick(first, l, w, v, edges, count, starts);
-    let r = report_of(first, l, w, ends, low);
+    let r = tick(first, l, w, v, edges, count, starts, ends, low);
     let score = r.score;
     let ticks = r.length as u32;
     scores[i] = score;

@@ -62,8 +62,7 @@ module _ (l : Layout) (w : Weighing) (n : ℕ) where
 
   pub stay-kept : (g : ℤ) (p at k : ℕ) (cs : Clocks) (t : List ℤ) → Kept ((n + 1) * l .row) t (stayOf l w g n p at k cs t)
   unfolding stayOf
-  stay-kept g p at k cs t =
-      kept-cond (ltZ mark (cellAt t (at + k))) (turn-kept (still p) 1 (ticked (l .radices) cs) _ t) (kept-refl _ t)
+  stay-kept g p at k cs t = turn-kept (still p) 1 (ticked (l .radices) cs) _ t
 
   module _ (es : List Edge) (count : ℕ) where
     pub spread-kept : (p : ℕ) (cs : Clocks) (x : ℤ) (t : List ℤ) → Kept ((n + 1) * l .row) t (spreadOf l w es count n p cs x t)

@@ -7,7 +7,8 @@ use mathlib.Core.Path.{_≡_, refl, sym, ap, _∙_}
 use mathlib.Core.Bool.{Bool, true, false, cond}
 use mathlib.Core.List.{List}
 use mathlib.Core.Logic.{inl, inr}
-use borrow.Author.Tests.{eq-eqb, ne-eqb}
+use borrow.Author.Tests.{eq-eqb, ne-eqb, ltb-true, ltb-false}
+use lib.Dec.{ltb}
 use lib.ListN.{length, getD, set}
 use lib.IntN.{ℤ, natAbs}
 use lib.Signed.{ltZ}
@@ -21,14 +22,12 @@ use Rattle.pattern.specs.declared.Edge.{Edge}
 use Rattle.pattern.specs.Clocks.{Clocks, guardsHold, afterResets}
 use Rattle.cells.specs.declared.Layout.{Layout}
 use Rattle.cells.specs.Layout.{Laid, cellsIn}
-use Rattle.cells.specs.Index.{codeOf, ticked, Within, blockAt}
+use Rattle.cells.specs.Index.{codeOf, clocksAt, ticked, Within, blockAt}
 use Rattle.cells.proofs.Digits.{ticked-within, coded, block-some}
 use Rattle.cells.proofs.Blocks.{row-next, row-fits, block-low, block-in}
 use Rattle.table.specs.declared.View.{View}
 use Rattle.table.specs.declared.Sent.{Sent}
 use Rattle.table.specs.Moves.{cellAt, marked, cleared, each, offered, moved, still, edgeIn, leaveOf, leavesOf, spreadOf, stayOf, sentOf, visitOf, visitsOf, passOf, gainAt, placeOf, placesOf, rowOf, rowsOf, startsOf, begun, tickOf, openOf}
-use Rattle.table.specs.declared.report.Report.{Report}
-use Rattle.table.specs.Reports.{noted, blockNoted, placeNoted, endsNoted, lengthsNoted}
 use Rattle.table.specs.Asks.{Sized, Known, Whole, Bounded, Sourced, Hop, Linked, Edges, Moving, Passing, Ready, Placing, Rows}
 use Rattle.table.proofs.Kept.{Kept, row-kept, marked-kept, pass-kept}
 
@@ -49,9 +48,18 @@ marked-more t a i h =
     let f : a + (i - a) ≡ i = omega arith in
     rw (e, f)
 
-pub each-more : (f : ℕ → List ℤ → List ℤ) (k : ℕ) (t₀ t u : List ℤ) → t ≡ each f k t₀ → u ≡ f k t → u ≡ each f (k + 1) t₀
+pub each-more : {A : Type 0} (f : ℕ → A → A) (k : ℕ) (t₀ t u : A) → t ≡ each f k t₀ → u ≡ f k t → u ≡ each f (k + 1) t₀
 unfolding each
 each-more f k t₀ t u p q = q ∙ rw (p, add-one k)
+
+-- turns that change nothing are left out
+pub each-skip : {A : Type 0} (f : ℕ → A → A) (d k : ℕ) (t : A) → ((j : ℕ) → k ≤ j → j < k + d → f j (each f k t) ≡ each f k t) → each f (k + d) t ≡ each f k t
+unfolding each
+each-skip f zero k t h = let e : k + 0 ≡ k = omega arith in rw e
+each-skip f (suc d) k t h =
+    let e : k + suc d ≡ suc (k + d) = omega arith in
+    let b = each-skip f d k t (λ j a z. h j a (omega arith)) in
+    rw (e, b) (h (k + d) (omega arith) (omega arith))
 
 -- ---- one move
 
@@ -85,56 +93,62 @@ pub leave-is : (l : Layout) (w : Weighing) (n p : ℕ) (cs : Clocks) (x : ℤ) (
 unfolding leaveOf
 leave-is l w n p cs x e t f = rw (eq-eqb (e .from) p f)
 
-leave-no : (l : Layout) (w : Weighing) (n p : ℕ) (cs : Clocks) (x : ℤ) (e : Edge) (t : List ℤ) → (e .from ≡ p → ⊥) → leaveOf l w n p cs x e t ≡ t
+pub leave-no : (l : Layout) (w : Weighing) (n p : ℕ) (cs : Clocks) (x : ℤ) (e : Edge) (t : List ℤ) → (e .from ≡ p → ⊥) → leaveOf l w n p cs x e t ≡ t
 unfolding leaveOf
 leave-no l w n p cs x e t f = rw (ne-eqb (e .from) p f)
 
 -- ---- what is left of a loop
 
 -- m turns from turn i on
-unfoldable pub rest : (ℕ → List ℤ → List ℤ) → (i m : ℕ) → List ℤ → List ℤ
+unfoldable pub rest : {A : Type 0} → (ℕ → A → A) → (i m : ℕ) → A → A
 rest f i zero t = t
 rest f i (suc m) t = rest f (suc i) m (f i t)
 
-rest-last : (f : ℕ → List ℤ → List ℤ) (i m : ℕ) (t : List ℤ) → rest f i (suc m) t ≡ f (i + m) (rest f i m t)
-unfolding rest
-rest-last f i zero t = let e : i + 0 ≡ i = omega arith in rw e
-rest-last f i (suc m) t = let e : suc i + m ≡ i + suc m = omega arith in rest-last f (suc i) m (f i t) ∙ rw e
+module _ {A : Type 0} (f : ℕ → A → A) where
+  rest-last : (i m : ℕ) (t : A) → rest f i (suc m) t ≡ f (i + m) (rest f i m t)
+  unfolding rest
+  rest-last i zero t = let e : i + 0 ≡ i = omega arith in rw e
+  rest-last i (suc m) t = let e : suc i + m ≡ i + suc m = omega arith in rest-last (suc i) m (f i t) ∙ rw e
 
-rest-all : (f : ℕ → List ℤ → List ℤ) (m : ℕ) (t : List ℤ) → rest f 0 m t ≡ each f m t
-unfolding each rest
-rest-all f zero t = refl
-rest-all f (suc m) t = let e : 0 + m ≡ m = omega arith in rest-last f 0 m t ∙ rw (e, rest-all f m t)
+  pub rest-all : (m : ℕ) (t : A) → rest f 0 m t ≡ each f m t
+  unfolding each rest
+  rest-all zero t = refl
+  rest-all (suc m) t = let e : 0 + m ≡ m = omega arith in rest-last 0 m t ∙ rw (e, rest-all m t)
 
--- turns that change nothing are left out
-rest-skip : (f : ℕ → List ℤ → List ℤ) (d a b m k : ℕ) (t : List ℤ) → b ≡ a + d → m ≡ d + k → ((j : ℕ) (u : List ℤ) → a ≤ j → j < b → f j u ≡ u) → rest f a m t ≡ rest f b k t
-unfolding rest
-rest-skip f zero a b m k t e g h = let x : a ≡ b = omega arith in let y : m ≡ k = omega arith in rw (x, y)
-rest-skip f (suc d) a b m k t e g h =
-    let y : m ≡ suc (d + k) = omega arith in
-    rw y (ap (rest f (suc a) (d + k)) (h a t (omega arith) (omega arith)) ∙ rest-skip f d (suc a) b (d + k) k t (omega arith) refl (λ j u x z. h j u (omega arith) z))
+  -- turns that change nothing are left out
+  rest-skip : (d a b m k : ℕ) (t : A) → b ≡ a + d → m ≡ d + k → ((j : ℕ) (u : A) → a ≤ j → j < b → f j u ≡ u) → rest f a m t ≡ rest f b k t
+  unfolding rest
+  rest-skip zero a b m k t e g h = let x : a ≡ b = omega arith in let y : m ≡ k = omega arith in rw (x, y)
+  rest-skip (suc d) a b m k t e g h =
+      let y : m ≡ suc (d + k) = omega arith in
+      rw y (ap (rest f (suc a) (d + k)) (h a t (omega arith) (omega arith)) ∙ rest-skip d (suc a) b (d + k) k t (omega arith) refl (λ j u x z. h j u (omega arith) z))
 
--- along the links only edges that do not leave p are left out
-pub hop-rest : (l : Layout) (w : Weighing) (es : List Edge) (count n p : ℕ) (cs : Clocks) (x : ℤ) (a b : ℕ) (t : List ℤ) → Hop es count p a b → rest (λ i. leaveOf l w n p cs x (edgeIn es i)) a (count - a) t ≡ rest (λ i. leaveOf l w n p cs x (edgeIn es i)) b (count - b) t
-hop-rest l w es count n p cs x a b t h =
-    let u = h .above in
-    let v = h .below in
-    rest-skip (λ i. leaveOf l w n p cs x (edgeIn es i)) (b - a) a b (count - a) (count - b) t (omega arith) (omega arith)
-    (λ j z y o. leave-no l w n p cs x (edgeIn es j) z (h .skips j y o))
+  pub rest-end : (i m : ℕ) (t T : A) → m ≡ 0 → rest f i m t ≡ T → t ≡ T
+  unfolding rest
+  rest-end i m t T e h = rw e at h
 
--- one edge is taken, and the link after it followed
-pub hop-more : (l : Layout) (w : Weighing) (es : List Edge) (count n p : ℕ) (cs : Clocks) (x : ℤ) (i b : ℕ) (t u T : List ℤ) → i < count → edgeIn es i .from ≡ p → Hop es count p (i + 1) b → u ≡ moved l w (edgeIn es i) (blockAt l (n + 1) 0 (edgeIn es i .to)) cs x t → rest (λ i. leaveOf l w n p cs x (edgeIn es i)) i (count - i) t ≡ T → rest (λ i. leaveOf l w n p cs x (edgeIn es i)) b (count - b) u ≡ T
-unfolding rest
-hop-more l w es count n p cs x i b t u T low from h e r =
-    let m : count - i ≡ suc (count - (i + 1)) = omega arith in
-    let s : i + 1 ≡ suc i = add-one i in
-    let v : u ≡ leaveOf l w n p cs x (edgeIn es i) t = e ∙ leave-is l w n p cs x (edgeIn es i) t from in
-    let r′ : rest (λ i. leaveOf l w n p cs x (edgeIn es i)) i (suc (count - (i + 1))) t ≡ T = rw m at r in
-    sym (hop-rest l w es count n p cs x (i + 1) b u h) ∙ rw (v, s) (rw s at r′)
+  -- along the links only edges that do not leave p are left out
+  module _ (es : List Edge) (count p : ℕ) (no : (j : ℕ) (u : A) → (edgeIn es j .from ≡ p → ⊥) → f j u ≡ u) where
+    pub hop-rest : (a b : ℕ) (t : A) → Hop es count p a b → rest f a (count - a) t ≡ rest f b (count - b) t
+    hop-rest a b t h =
+        let u = h .above in
+        let v = h .below in
+        rest-skip (b - a) a b (count - a) (count - b) t (omega arith) (omega arith) (λ j z y o. no j z (h .skips j y o))
 
-pub rest-end : (f : ℕ → List ℤ → List ℤ) (i m : ℕ) (t T : List ℤ) → m ≡ 0 → rest f i m t ≡ T → t ≡ T
-unfolding rest
-rest-end f i m t T e h = rw e at h
+    -- one edge is taken, and the link after it followed
+    pub hop-more : (i b : ℕ) (t u T : A) → i < count → Hop es count p (i + 1) b → u ≡ f i t → rest f i (count - i) t ≡ T → rest f b (count - b) u ≡ T
+    unfolding rest
+    hop-more i b t u T low h e r =
+        let m : count - i ≡ suc (count - (i + 1)) = omega arith in
+        let s : i + 1 ≡ suc i = add-one i in
+        let r′ : rest f i (suc (count - (i + 1))) t ≡ T = rw m at r in
+        sym (hop-rest (i + 1) b u h) ∙ rw (e, s) (rw s at r′)
+
+    -- all edges, by their links
+    pub hop-all : (first : ℕ) (t : A) → Hop es count p 0 first → rest f first (count - first) t ≡ each f count t
+    hop-all first t h =
+        let o : count - 0 ≡ count = omega arith in
+        sym (hop-rest 0 first t h) ∙ rw o (rest-all count t)
 
 -- ---- a cell, a block
 
@@ -169,68 +183,40 @@ pub passing-moving : {t : List ℤ} {l : Layout} {g : ℤ} {n p at : ℕ} (cs : 
 passing-moving cs h i = record { laid = h .laid; low = h .low; inside = h .inside; within = i }
 
 module _ (l : Layout) (w : Weighing) (g : ℤ) (n p at k : ℕ) (cs : Clocks) (t : List ℤ) where
-  pub stay-is : (c : Clocks) (x : ℤ) (e : Edge) (to : ℕ) (u : List ℤ) → ltZ mark (cellAt t (at + k)) ≡ true → c ≡ ticked (l .radices) cs → x ≡ weightingOf w .combine (cellAt t (at + k)) g → e ≡ still p → to ≡ blockAt l (n + 1) 1 p → u ≡ moved l w e to c x t → u ≡ stayOf l w g n p at k cs t
+  pub stay-is : (c : Clocks) (x : ℤ) (e : Edge) (to : ℕ) (u : List ℤ) → c ≡ ticked (l .radices) cs → x ≡ weightingOf w .combine (cellAt t (at + k)) g → e ≡ still p → to ≡ blockAt l (n + 1) 1 p → u ≡ moved l w e to c x t → u ≡ stayOf l w g n p at k cs t
   unfolding stayOf
-  stay-is c x e to u m a f s h q = rw m (rw (a, f, s, h) at q)
+  stay-is c x e to u a f s h q = rw (a, f, s, h) at q
 
-  pub stay-no : ltZ mark (cellAt t (at + k)) ≡ false → t ≡ stayOf l w g n p at k cs t
-  unfolding stayOf
-  stay-no m = rw m
+  -- the stay and what is sent along all edges make up the visit of an occupied cell
+  pub sent-visit : (es : List Edge) (count : ℕ) (s : Sent) (u : List ℤ) → ltZ mark (cellAt t (at + k)) ≡ true → s ≡ sentOf l w g cs (cellAt t (at + k)) → u ≡ stayOf l w g n p at k cs t → leavesOf l w es n p (s .clocks) (s .worth) count u ≡ visitOf l w es count g n p at k cs t
+  unfolding stayOf visitOf spreadOf
+  sent-visit es count s u m e f = rw (m, e, f)
 
-  -- the stay and what is sent make up the visit
-  pub sent-rest : (es : List Edge) (count first : ℕ) (s : Sent) (u : List ℤ) → Hop es count p 0 first → s ≡ sentOf l w g first count cs (cellAt t (at + k)) → u ≡ stayOf l w g n p at k cs t → rest (λ i. leaveOf l w n p (s .clocks) (s .worth) (edgeIn es i)) (s .first) (count - s .first) u ≡ visitOf l w es count g n p at k cs t
-  unfolding stayOf sentOf visitOf spreadOf rest
-  sent-rest es count first s u h e f = rw (e, f) (by (ltZ mark (cellAt t (at + k))))
-    where
-      x : ℤ
-      x = weightingOf w .combine (cellAt t (at + k)) g
+  pub sent-is : (c : Clocks) (v x y : ℤ) → c ≡ ticked (l .radices) cs → x ≡ weightingOf w .combine v g → y ≡ x → _≡_ {A = Sent} (record { clocks = c; worth = y }) (sentOf l w g cs v)
+  sent-is c v x y a f e = rw (e, f, a)
 
-      c : Clocks
-      c = ticked (l .radices) cs
+  pub visit-no : (es : List Edge) (count : ℕ) → ltZ mark (cellAt t (at + k)) ≡ false → visitOf l w es count g n p at k cs t ≡ t
+  unfolding visitOf
+  visit-no es count m = rw m
 
-      z : List ℤ
-      z = moved l w (still p) (blockAt l (n + 1) 1 p) c x t
+-- cells that hold no worth are left out
+pub visits-skip : (l : Layout) (w : Weighing) (es : List Edge) (count : ℕ) (g : ℤ) (n p at k r : ℕ) (t : List ℤ) → k ≤ r → ((j : ℕ) → k ≤ j → j < r → ltZ mark (cellAt (visitsOf l w es count g n p at k t) (at + j)) ≡ false) → visitsOf l w es count g n p at k t ≡ visitsOf l w es count g n p at r t
+visits-skip l w es count g n p at k r t low h =
+    let e : k + (r - k) ≡ r = omega arith in
+    sym (each-skip (λ i. visitOf l w es count g n p at i (clocksAt (l .radices) i)) (r - k) k t
+    (λ j a b. visit-no l w g n p at j (clocksAt (l .radices) j) (visitsOf l w es count g n p at k t) es count (h j a (omega arith))))
+    ∙ ap (λ (m : ℕ). visitsOf l w es count g n p at m t) e
 
-      q : Bool → Sent
-      q b = cond b (record { first = first; clocks = c; worth = x }) (record { first = count; clocks = cs; worth = cellAt t (at + k) })
-
-      by : (b : Bool) → rest (λ i. leaveOf l w n p (q b .clocks) (q b .worth) (edgeIn es i)) (q b .first) (count - q b .first) (cond b z t) ≡ cond b (leavesOf l w es n p c x count z) t
-      by true =
-          let o : count - 0 ≡ count = omega arith in
-          sym (hop-rest l w es count n p c x 0 first z h) ∙ rw o (rest-all (λ i. leaveOf l w n p c x (edgeIn es i)) count z)
-      by false = let o : count - count ≡ 0 = omega arith in rw o
-
-module _ (l : Layout) (w : Weighing) (g : ℤ) (first none : ℕ) (cs : Clocks) (v : ℤ) where
-  pub sent-is : (c : Clocks) (x y : ℤ) → ltZ mark v ≡ true → c ≡ ticked (l .radices) cs → x ≡ weightingOf w .combine v g → y ≡ x → _≡_ {A = Sent} (record { first = first; clocks = c; worth = y }) (sentOf l w g first none cs v)
-  unfolding sentOf
-  sent-is c x y m a f e = rw (m, e, f, a)
-
-  pub sent-low : (s : Sent) → first ≤ none → s ≡ sentOf l w g first none cs v → s .first ≤ none
-  unfolding sentOf
-  sent-low s h e = rw e (by (ltZ mark v))
-    where
-      q : Bool → Sent
-      q b = cond b (record { first = first; clocks = ticked (l .radices) cs; worth = weightingOf w .combine v g }) (record { first = none; clocks = cs; worth = v })
-
-      by : (b : Bool) → q b .first ≤ none
-      by true = h
-      by false = omega arith
-
-  pub sent-no : (y : ℤ) → ltZ mark v ≡ false → y ≡ v → _≡_ {A = Sent} (record { first = none; clocks = cs; worth = y }) (sentOf l w g first none cs v)
-  unfolding sentOf
-  sent-no y m e = rw (m, e)
-
--- an edge is followed only from an occupied cell, whose clocks are a tick later
-pub sent-first : (l : Layout) (w : Weighing) (g : ℤ) (first none : ℕ) (cs : Clocks) (v : ℤ) (s : Sent) → Laid l → s ≡ sentOf l w g first none cs v → s .first < none → (s .first ≡ first) × Within (l .radices) (s .clocks)
-unfolding sentOf
-sent-first l w g first none cs v s laid e = rw e (by (ltZ mark v))
+-- one mark more is passed over
+pub marks-more : (t : List ℤ) (a k i : ℕ) → ((j : ℕ) → k ≤ j → j < i → ltZ mark (cellAt t (a + j)) ≡ false) → ltZ mark (cellAt t (a + i)) ≡ false → (j : ℕ) → k ≤ j → j < i + 1 → ltZ mark (cellAt t (a + j)) ≡ false
+marks-more t a k i h m j low high = by (ltb j i) refl
   where
-    q : Bool → Sent
-    q b = cond b (record { first = first; clocks = ticked (l .radices) cs; worth = weightingOf w .combine v g }) (record { first = none; clocks = cs; worth = v })
-
-    by : (b : Bool) → q b .first < none → (q b .first ≡ first) × Within (l .radices) (q b .clocks)
-    by true h = (refl, ticked-within l cs laid)
-    by false h = absurd (omega arith)
+    by : (b : Bool) → ltb j i ≡ b → ltZ mark (cellAt t (a + j)) ≡ false
+    by true e = h j low (ltb-true j i e)
+    by false e =
+        let y = ltb-false j i e in
+        let f : j ≡ i = omega arith in
+        rw f m
 
 pub pass-is : (l : Layout) (w : Weighing) (es : List Edge) (count : ℕ) (g : ℤ) (n p at : ℕ) (t u : List ℤ) → ltZ mark g ≡ true → u ≡ visitsOf l w es count g n p at (l .block) t → u ≡ passOf l w es count g n p at t
 unfolding passOf
@@ -380,25 +366,3 @@ whole-from t l inside o =
           let g = row-next n (l .row) in
           sized-more (omega arith) (o (n * l .row + i) (omega arith));
     }
-
--- ---- reports
-
-pub block-more : (w : Weighing) (t : List ℤ) (a n k : ℕ) (r q x : Report) → q ≡ blockNoted w t a n k r → x ≡ noted w q (cellAt t (a + k)) n → x ≡ blockNoted w t a n (k + 1) r
-unfolding blockNoted
-block-more w t a n k r q x e f = f ∙ rw (e, add-one k)
-
-pub ends-more : (l : Layout) (w : Weighing) (ends : List Bool) (t : List ℤ) (n p : ℕ) (r q x : Report) → q ≡ endsNoted l w ends t n p r → x ≡ placeNoted l w (getD ends p false) t n p q → x ≡ endsNoted l w ends t n (p + 1) r
-unfolding endsNoted
-ends-more l w ends t n p r q x e f = f ∙ rw (e, add-one p)
-
-pub lengths-more : (l : Layout) (w : Weighing) (ends : List Bool) (t : List ℤ) (m : ℕ) (q x : Report) → q ≡ lengthsNoted l w ends t m → x ≡ endsNoted l w ends t (l .high - m) (l .places) q → x ≡ lengthsNoted l w ends t (m + 1)
-unfolding lengthsNoted
-lengths-more l w ends t m q x e f = f ∙ rw (e, add-one m)
-
-pub place-is : (l : Layout) (w : Weighing) (end : Bool) (t : List ℤ) (n p a : ℕ) (r q : Report) → end ≡ true → a ≡ blockAt l n 0 p → q ≡ blockNoted w t a n (l .block) r → q ≡ placeNoted l w end t n p r
-unfolding placeNoted
-place-is l w end t n p a r q e f g = g ∙ rw (e, f)
-
-pub place-no : (l : Layout) (w : Weighing) (end : Bool) (t : List ℤ) (n p : ℕ) (r : Report) → end ≡ false → r ≡ placeNoted l w end t n p r
-unfolding placeNoted
-place-no l w end t n p r e = rw e

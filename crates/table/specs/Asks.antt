@@ -1,10 +1,12 @@
 -- What the functions ask of a layout, a view, edges and a table.
 use Prim.Native.Nat.{ℕ, _+_, _*_, _^_, _≤_, _<_}
 use mathlib.Core.Path.{_≡_}
+use mathlib.Core.Bool.{true, false}
 use mathlib.Core.List.{List}
 use mathlib.Core.Logic.{_⊎_}
 use lib.ListN.{length, getD}
 use lib.IntN.{ℤ, natAbs}
+use lib.Signed.{ltZ}
 use Rattle.weighting.specs.Cell.{mark}
 use Rattle.pattern.specs.declared.Edge.{Edge}
 use Rattle.pattern.specs.Clocks.{Clocks}
@@ -51,6 +53,13 @@ pub record Filed (t : List ℤ) (l : Layout) : Type 0 where
 -- The n cells from a hold marks or worths that can grow.
 pub record Bounded (t : List ℤ) (a n : ℕ) : Type 0 where
   pub at : (k : ℕ) → k < n → Sized (2 ^ 60) (cellAt t (a + k))
+
+-- r is the first cell from k on of the block at `a`, of m cells, that holds a worth, or m.
+pub record Occupied (t : List ℤ) (a m k r : ℕ) : Type 0 where
+  pub above : k ≤ r
+  pub below : r ≤ m
+  pub skips : (j : ℕ) → k ≤ j → j < r → ltZ mark (cellAt t (a + j)) ≡ false
+  pub holds : r < m → ltZ mark (cellAt t (a + r)) ≡ true
 
 -- Each edge leaves one of 16 places.
 pub record Sourced (es : List Edge) (count : ℕ) : Type 0 where

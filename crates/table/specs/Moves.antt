@@ -32,8 +32,8 @@ marked t a (suc n) = set (marked t a n) (a + n) mark
 abbrev pub cleared : List ℤ → ℕ → ℕ → List ℤ
 cleared t a b = marked t a (b - a)
 
--- The first n turns of a loop over a table.
-unfoldable pub each : (ℕ → List ℤ → List ℤ) → ℕ → List ℤ → List ℤ
+-- The first n turns of a loop.
+unfoldable pub each : {A : Type 0} → (ℕ → A → A) → ℕ → A → A
 each f zero t = t
 each f (suc n) t = f n (each f n t)
 
@@ -76,18 +76,13 @@ visitOf l w es count g n p at k cs t =
     (spreadOf l w es count n p (ticked (l .radices) cs) (weightingOf w .combine (cellAt t (at + k)) g) t)
     t
 
--- The same in two parts, as the code does it: the stay, and what is then sent along the edges from `first` on.
+-- The same in two parts, as the code does it: the stay, and what is then sent along the edges.
 unfoldable pub stayOf : Layout → Weighing → (gain : ℤ) → (n p at k : ℕ) → Clocks → List ℤ → List ℤ
 stayOf l w g n p at k cs t =
-    cond (ltZ mark (cellAt t (at + k)))
-    (moved l w (still p) (blockAt l (n + 1) 1 p) (ticked (l .radices) cs) (weightingOf w .combine (cellAt t (at + k)) g) t)
-    t
+    moved l w (still p) (blockAt l (n + 1) 1 p) (ticked (l .radices) cs) (weightingOf w .combine (cellAt t (at + k)) g) t
 
-unfoldable pub sentOf : Layout → Weighing → (gain : ℤ) → (first none : ℕ) → Clocks → (cell : ℤ) → Sent
-sentOf l w g first none cs v =
-    cond (ltZ mark v)
-    (record { first = first; clocks = ticked (l .radices) cs; worth = weightingOf w .combine v g })
-    (record { first = none; clocks = cs; worth = v })
+abbrev pub sentOf : Layout → Weighing → (gain : ℤ) → Clocks → (cell : ℤ) → Sent
+sentOf l w g cs v = record { clocks = ticked (l .radices) cs; worth = weightingOf w .combine v g }
 
 -- The first m cells of the block.
 abbrev pub visitsOf : Layout → Weighing → List Edge → (count : ℕ) → (gain : ℤ) → (n p at m : ℕ) → List ℤ → List ℤ

@@ -1,51 +1,81 @@
--- The report of a table, loop by loop: the best worth just entered in an end place, and its length. Lengths fall, and
--- what is at least as good takes the place of what is longer, so the shortest of the best is left.
-use Prim.Native.Nat.{ℕ, zero, suc, _+_, _-_}
+-- The report of a tick, loop by loop: the best of what the tick offers to end places just entered, and its length. Lengths
+-- fall, and what is at least as good takes the place of what is longer, so the shortest of the best is left. That this is
+-- the report of the table one tick later is a theorem of the crate table_laws.
+use Prim.Native.Nat.{ℕ, zero, suc, _+_}
 use mathlib.Core.List.{List}
-use mathlib.Core.Bool.{Bool, true, false, cond}
-use lib.ListN.{getD}
+use mathlib.Core.Bool.{Bool, true, false, cond, _&&_}
+use lib.Dec.{eqb, ltb}
+use lib.ListN.{getD, replicate}
 use lib.IntN.{ℤ, pos}
 use lib.Signed.{ltZ}
 use Rattle.weighting.specs.declared.Weighing.{Weighing}
 use Rattle.weighting.specs.Weightings.{weightingOf}
 use Rattle.weighting.specs.Cell.{mark}
+use Rattle.pattern.specs.declared.Edge.{Edge}
+use Rattle.pattern.specs.Clocks.{Clocks, guardsHold}
 use Rattle.cells.specs.declared.Layout.{Layout}
-use Rattle.cells.specs.Index.{blockAt}
+use Rattle.cells.specs.Index.{clocksAt, ticked, blockAt}
+use Rattle.table.specs.declared.View.{View}
 use Rattle.table.specs.declared.report.Report.{Report}
-use Rattle.table.specs.Moves.{cellAt}
+use Rattle.table.specs.Moves.{cellAt, each, edgeIn, gainAt}
 
 abbrev pub noReport : Report
 noReport = record { found = false; score = pos 0; length = 0 }
 
--- A cell that holds v, of length n, after the report r.
+-- A worth v of length n, after the report r.
 unfoldable pub noted : Weighing → Report → ℤ → ℕ → Report
 noted w r v n =
-    cond (ltZ mark v)
-    (cond (r .found)
+    cond (r .found)
     (cond (weightingOf w .order .atLeast v (r .score)) (record { found = true; score = v; length = n }) r)
-    (record { found = true; score = v; length = n }))
+    (record { found = true; score = v; length = n })
+
+-- A worth with these clocks, both a tick later, goes along e to length n + 1: noted if a run may end where e leads.
+unfoldable pub toldMove : Weighing → (tells : List Bool) → (n : ℕ) → Clocks → (worth : ℤ) → Edge → Report → Report
+toldMove w tells n cs x e r = cond (guardsHold cs e && getD tells (e .to) false) (noted w r x (n + 1)) r
+
+-- The same, if e leaves place p.
+unfoldable pub toldLeave : Weighing → (tells : List Bool) → (n p : ℕ) → Clocks → (worth : ℤ) → Edge → Report → Report
+toldLeave w tells n p cs x e r = cond (eqb (e .from) p) (toldMove w tells n cs x e r) r
+
+-- Cell k, with these clocks, of the block of length n and place p that starts at `at`: if it holds a worth, all its moves.
+unfoldable pub toldVisit : Layout → Weighing → List Edge → (count : ℕ) → (tells : List Bool) → (gain : ℤ) → (n p at k : ℕ) → Clocks → List ℤ → Report → Report
+toldVisit l w es count tells g n p at k cs t r =
+    cond (ltZ mark (cellAt t (at + k)))
+    (each (λ i. toldLeave w tells n p (ticked (l .radices) cs) (weightingOf w .combine (cellAt t (at + k)) g) (edgeIn es i)) count r)
     r
 
--- The first k cells from a, of length n.
-unfoldable pub blockNoted : Weighing → List ℤ → (a n k : ℕ) → Report → Report
-blockNoted w t a n zero r = r
-blockNoted w t a n (suc k) r = noted w (blockNoted w t a n k r) (cellAt t (a + k)) n
+-- The first m cells of the block.
+abbrev pub toldVisits : Layout → Weighing → List Edge → (count : ℕ) → (tells : List Bool) → (gain : ℤ) → (n p at m : ℕ) → List ℤ → Report → Report
+toldVisits l w es count tells g n p at m t r =
+    each (λ k. toldVisit l w es count tells g n p at k (clocksAt (l .radices) k) t) m r
 
--- The cells of a place just entered, if a run may end there.
-unfoldable pub placeNoted : Layout → Weighing → (end : Bool) → List ℤ → (n p : ℕ) → Report → Report
-placeNoted l w end t n p r = cond end (blockNoted w t (blockAt l n 0 p) n (l .block) r) r
+-- The whole block, unless its place cannot be stayed in.
+unfoldable pub toldPass : Layout → Weighing → List Edge → (count : ℕ) → (tells : List Bool) → (gain : ℤ) → (n p at : ℕ) → List ℤ → Report → Report
+toldPass l w es count tells g n p at t r = cond (ltZ mark g) (toldVisits l w es count tells g n p at (l .block) t r) r
 
--- The first p places, for length n.
-unfoldable pub endsNoted : Layout → Weighing → List Bool → List ℤ → (n p : ℕ) → Report → Report
-endsNoted l w ends t n zero r = r
-endsNoted l w ends t n (suc p) r = placeNoted l w (getD ends p false) t n p (endsNoted l w ends t n p r)
+-- Both stages of a place.
+unfoldable pub toldPlace : Layout → Weighing → List Edge → (count : ℕ) → (tells : List Bool) → (entered staying : ℤ) → (n p : ℕ) → List ℤ → Report → Report
+toldPlace l w es count tells g h n p t r =
+    toldPass l w es count tells h n p (blockAt l n 1 p) t (toldPass l w es count tells g n p (blockAt l n 0 p) t r)
 
--- The first m lengths from `high` down.
-unfoldable pub lengthsNoted : Layout → Weighing → List Bool → List ℤ → (m : ℕ) → Report
-lengthsNoted l w ends t zero = noReport
-lengthsNoted l w ends t (suc m) =
-    endsNoted l w ends t (l .high - m) (l .places) (lengthsNoted l w ends t m)
+-- The first m places.
+abbrev pub toldPlaces : Layout → Weighing → View → List Edge → (count : ℕ) → (tells : List Bool) → (n m : ℕ) → List ℤ → Report → Report
+toldPlaces l w v es count tells n m t r =
+    each (λ p. toldPlace l w es count tells (gainAt (v .entered) p) (gainAt (v .staying) p) n p t) m r
 
--- The report over lengths from `low` to `high`.
-abbrev pub reportOf : Layout → Weighing → List Bool → (low : ℕ) → List ℤ → Report
-reportOf l w ends low t = lengthsNoted l w ends t (l .high + 1 - low)
+-- Where a run of this length may end: "whose length is at least the window's low".
+abbrev pub tellsAt : (ends : List Bool) → (low ticks : ℕ) → List Bool
+tellsAt ends low ticks = cond (ltb ticks low) (replicate 16 false) ends
+
+-- Row n, into length n + 1.
+abbrev pub toldRow : Layout → Weighing → View → List Edge → (count : ℕ) → (ends : List Bool) → (low n : ℕ) → List ℤ → Report → Report
+toldRow l w v es count ends low n t r = toldPlaces l w v es count (tellsAt ends low (n + 1)) n (l .places) t r
+
+-- The rows below n, the longest first.
+unfoldable pub toldRows : Layout → Weighing → View → List Edge → (count : ℕ) → (ends : List Bool) → (low n : ℕ) → List ℤ → Report → Report
+toldRows l w v es count ends low zero t r = r
+toldRows l w v es count ends low (suc n) t r = toldRows l w v es count ends low n t (toldRow l w v es count ends low n t r)
+
+-- All of them.
+abbrev pub toldOf : Layout → Weighing → View → List Edge → (count : ℕ) → (ends : List Bool) → (low : ℕ) → List ℤ → Report
+toldOf l w v es count ends low t = toldRows l w v es count ends low (l .high) t noReport

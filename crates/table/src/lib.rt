@@ -1,11 +1,15 @@
-// One tick over a monitor's table in place, the opening of a table, and its report (document 01, 'Monitor tables').
+// One tick over a monitor's table in place, with its report, and the opening of a table (document 01, 'Monitor tables').
 // A tick moves length n to n + 1, so row n + 1 is cleared and row n offered into it, from the longest to the shortest.
+// What is offered to an end place just entered is noted for the report as it is offered.
 pub mod report;
 
+use self::report::Report;
+use self::report::no_report;
+use self::report::note_if;
 use cells::Layout;
 use cells::block_at;
+use cells::clocks_to;
 use cells::code;
-use cells::next_clocks;
 use cells::tick_clocks;
 use pattern::Edge;
 use pattern::Guard;
@@ -25,9 +29,12 @@ ghost use lib.Signed.{ltZ};
 ghost use Rattle.weighting.specs.Cell.{mark};
 ghost use Rattle.cells.specs.Layout.{Laid};
 ghost use Rattle.cells.specs.Index.{Within, blockAt};
+ghost use Rattle.pattern.specs.Clocks.{guardsHold};
 ghost use Rattle.table.specs.Moves.{cellAt, cleared, offered, still, moved, stayOf, sentOf, visitsOf, passOf};
 ghost use Rattle.table.specs.Moves.{placeOf, placesOf, rowOf, rowsOf, begun, tickOf, openOf};
+ghost use Rattle.table.specs.Reports.{toldMove, toldVisits, toldPass, toldPlace, toldPlaces, tellsAt, toldRow, toldOf};
 ghost use Rattle.table.specs.Asks.{Known, Ticking, Filed, Sourced, Linked, Edges, Moving, Passing, Placing, Ready, Rows};
+ghost use Rattle.table.specs.Asks.{Occupied};
 
 // What one tick gains in each place, by stage: just entered, or staying. MARK where the place cannot be stayed in.
 pub struct View {
@@ -93,37 +100,60 @@ fn stay(place: u8) -> Edge
     }
 }
 
-// A worth with these clocks, both a tick later, moved along e into the block at `to`.
-fn turn(table: &mut [i64], l: Layout, w: Weighing, e: Edge, to: usize, clocks: [u32; 4], worth: i64)
+// A worth with these clocks, both a tick later, moved along e into the block at `to`, if e can be taken.
+fn turn(
+    table: &mut [i64],
+    l: Layout,
+    w: Weighing,
+    e: Edge,
+    to: usize,
+    clocks: [u32; 4],
+    worth: i64,
+) -> bool
     requires { ⌜ (Laid l) × (Within (l .radices) clocks) × (to + l .block ≤ length (now table)) ⌝ }
+    ensures { λ r. ⌜ r ≡ guardsHold clocks e ⌝ }
     ensures { λ _. ⌜ now (table .exit) ≡ moved l w e to clocks worth (now (table .entry)) ⌝ }
 {
     if guards_hold(e, clocks) {
         let reset = after_resets(e, clocks);
         let j = code(l, reset);
         offer(table, w, to + j, worth);
+        true
+    } else {
+        false
     }
 }
 
-// Along e into length n + 1, just entered.
-fn leave(table: &mut [i64], l: Layout, w: Weighing, e: Edge, n: usize, clocks: [u32; 4], worth: i64)
+// Along e into length n + 1, just entered, and into the report if a run of this length may end there.
+fn leave(
+    table: &mut [i64],
+    l: Layout,
+    w: Weighing,
+    e: Edge,
+    tells: &[bool; 16],
+    n: usize,
+    clocks: [u32; 4],
+    worth: i64,
+    r: Report,
+) -> Report
     requires { ⌜ (Moving (now table) l n clocks) × (e .to < l .places) ⌝ }
+    ensures { λ q. ⌜ q ≡ toldMove w (now (tells .entry)) n clocks worth e r ⌝ }
     ensures { λ _. ⌜ now (table .exit) ≡ moved l w e (blockAt l (n + 1) 0 (e .to)) clocks worth (now (table .entry)) ⌝ }
 {
     let end = e.to as usize;
     let to = block_at(l, n + 1, 0, end);
-    turn(table, l, w, e, to, clocks, worth);
+    let taken = turn(table, l, w, e, to, clocks, worth);
+    let told = tells[end];
+    note_if(w, taken & told, r, worth, n + 1)
 }
 
-// What a visited cell sends along the edges out of its place: its clocks and its worth a tick later, from this edge on.
+// What an occupied cell sends along the edges out of its place: its clocks and its worth a tick later.
 struct Sent {
-    first: usize,
     clocks: [u32; 4],
     worth: i64,
 }
 
-// Cell k of the block at `at`, which has these clocks, looked at once. A worth stays in p, and is sent along the edges
-// from `first` on; an empty cell is sent along none.
+// The occupied cell k of the block at `at`, which has these clocks: its worth stays in p, and is then sent along edges.
 fn visit(
     table: &mut [i64],
     l: Layout,
@@ -134,36 +164,42 @@ fn visit(
     at: usize,
     k: usize,
     clocks: [u32; 4],
-    first: usize,
-    none: usize,
 ) -> Sent
-    requires { ⌜ (Passing (now table) l gain n p at) × (ltZ mark gain ≡ true) × (k < l .block) ⌝ }
-    ensures { λ r. ⌜ r ≡ sentOf l w gain first none clocks (cellAt (now (table .entry)) (at + k)) ⌝ }
+    requires { ⌜ (Passing (now table) l gain n p at) × (ltZ mark gain ≡ true) × (k < l .block)
+        × (ltZ mark (cellAt (now table) (at + k)) ≡ true) ⌝ }
+    ensures { λ r. ⌜ r ≡ sentOf l w gain clocks (cellAt (now (table .entry)) (at + k)) ⌝ }
     ensures { λ _. ⌜ now (table .exit) ≡ stayOf l w gain n p at k clocks (now (table .entry)) ⌝ }
 {
     let v = table[at + k];
-    if MARK < v {
-        let ticked = tick_clocks(l, clocks);
-        let grown = combine(w, v, gain);
-        let e = stay(p as u8);
-        let to = block_at(l, n + 1, 1, p);
-        turn(table, l, w, e, to, ticked, grown);
-        Sent {
-            first: first,
-            clocks: ticked,
-            worth: grown,
-        }
-    } else {
-        Sent {
-            first: none,
-            clocks: clocks,
-            worth: v,
-        }
+    let ticked = tick_clocks(l, clocks);
+    let grown = combine(w, v, gain);
+    let e = stay(p as u8);
+    let to = block_at(l, n + 1, 1, p);
+    turn(table, l, w, e, to, ticked, grown);
+    Sent {
+        clocks: ticked,
+        worth: grown,
     }
 }
 
-// All cells of the block, the clocks carried along, and from each occupied one all edges out of p. The two loops stand
-// together so that the edges are copied once a block and not once a cell.
+// The first occupied cell of the block at `at` from cell k on, or `size`.
+fn occupied(table: &[i64], at: usize, k: usize, size: usize) -> usize
+    requires { ⌜ (at + size ≤ length (now table)) × (k ≤ size) ⌝ }
+    ensures { λ r. ⌜ Occupied (now (table .entry)) at size k r ⌝ }
+{
+    let mut i = k;
+    while i < size {
+        let v = table[at + i];
+        if MARK < v {
+            return i;
+        }
+        i += 1;
+    }
+    i
+}
+
+// All occupied cells of the block, from the first one on, each with its clocks, and from each all edges out of p. The two
+// loops stand together so that the edges are copied once a block and not once a cell.
 fn visits(
     table: &mut [i64],
     l: Layout,
@@ -171,35 +207,44 @@ fn visits(
     edges: [Edge; 32],
     count: usize,
     links: &[u8; 48],
+    tells: &[bool; 16],
     gain: i64,
     n: usize,
     p: usize,
     at: usize,
-)
-    requires { ⌜ (Passing (now table) l gain n p at) × (Edges l edges count (now links)) × (ltZ mark gain ≡ true) ⌝ }
+    start: usize,
+    r: Report,
+) -> Report
+    requires { ⌜ (Passing (now table) l gain n p at) × (Edges l edges count (now links)) × (ltZ mark gain ≡ true)
+        × (Occupied (now table) at (l .block) 0 start) ⌝ }
+    ensures { λ q. ⌜ q ≡ toldVisits l w edges count (now (tells .entry)) gain n p at (l .block) (now (table .entry)) r ⌝ }
     ensures { λ _. ⌜ now (table .exit) ≡ visitsOf l w edges count gain n p at (l .block) (now (table .entry)) ⌝ }
 {
     let size = l.block;
     let first = links[32 + p] as usize;
+    let mut best = r;
+    let mut last: usize = 0;
     let mut clocks: [u32; 4] = [0, 0, 0, 0];
-    let mut k: usize = 0;
+    let mut k = start;
     while k < size {
-        let sent = visit(table, l, w, gain, n, p, at, k, clocks, first, count);
+        let here = clocks_to(l, clocks, last, k);
+        let sent = visit(table, l, w, gain, n, p, at, k, here);
         let ticked = sent.clocks;
         let worth = sent.worth;
-        let mut i = sent.first;
+        let mut i = first;
         while i < count {
             let e = edges[i];
-            leave(table, l, w, e, n, ticked, worth);
+            best = leave(table, l, w, e, tells, n, ticked, worth, best);
             i = links[i] as usize;
         }
-        let next = next_clocks(l, clocks, k);
-        clocks = next;
-        k += 1;
+        last = k;
+        clocks = here;
+        k = occupied(table, at, last + 1, size);
     }
+    best
 }
 
-// The block, unless its place cannot be stayed in.
+// The block, unless its place cannot be stayed in or no cell of it is occupied.
 fn pass(
     table: &mut [i64],
     l: Layout,
@@ -207,17 +252,38 @@ fn pass(
     edges: [Edge; 32],
     count: usize,
     links: &[u8; 48],
+    tells: &[bool; 16],
     gain: i64,
     n: usize,
     p: usize,
     at: usize,
-)
+    r: Report,
+) -> Report
     requires { ⌜ (Passing (now table) l gain n p at) × (Edges l edges count (now links)) ⌝ }
+    ensures { λ q. ⌜ q ≡ toldPass l w edges count (now (tells .entry)) gain n p at (now (table .entry)) r ⌝ }
     ensures { λ _. ⌜ now (table .exit) ≡ passOf l w edges count gain n p at (now (table .entry)) ⌝ }
 {
     if MARK < gain {
-        visits(table, l, w, edges, count, links, gain, n, p, at);
+        let start = occupied(table, at, 0, l.block);
+        if start < l.block {
+            return visits(
+                table,
+                l,
+                w,
+                edges,
+                count,
+                links,
+                tells,
+                gain,
+                n,
+                p,
+                at,
+                start,
+                r,
+            );
+        }
     }
+    r
 }
 
 // The cells of length n in place p, of both stages.
@@ -228,21 +294,37 @@ fn place(
     edges: [Edge; 32],
     count: usize,
     links: &[u8; 48],
+    tells: &[bool; 16],
     entered: i64,
     staying: i64,
     n: usize,
     p: usize,
-)
+    r: Report,
+) -> Report
     requires { ⌜ (Placing (now table) l entered staying n p) × (Edges l edges count (now links)) ⌝ }
+    ensures { λ q. ⌜ q ≡ toldPlace l w edges count (now (tells .entry)) entered staying n p (now (table .entry)) r ⌝ }
     ensures { λ _. ⌜ now (table .exit) ≡ placeOf l w edges count entered staying n p (now (table .entry)) ⌝ }
 {
     let a = block_at(l, n, 0, p);
     let b = block_at(l, n, 1, p);
-    pass(table, l, w, edges, count, links, entered, n, p, a);
-    pass(table, l, w, edges, count, links, staying, n, p, b);
+    let first = pass(table, l, w, edges, count, links, tells, entered, n, p, a, r);
+    pass(
+        table,
+        l,
+        w,
+        edges,
+        count,
+        links,
+        tells,
+        staying,
+        n,
+        p,
+        b,
+        first,
+    )
 }
 
-// Row n into row n + 1, place by place: each cell of row n is visited once.
+// Row n into row n + 1, place by place: each cell of row n is looked at once.
 fn row(
     table: &mut [i64],
     l: Layout,
@@ -251,19 +333,44 @@ fn row(
     edges: [Edge; 32],
     count: usize,
     links: &[u8; 48],
+    tells: &[bool; 16],
     n: usize,
-)
+    r: Report,
+) -> Report
     requires { ⌜ (Known l v edges count) × (Linked edges count (now links)) × (Ready (now table) l n) ⌝ }
+    ensures { λ q. ⌜ q ≡ toldPlaces l w v edges count (now (tells .entry)) n (l .places) (now (table .entry)) r ⌝ }
     ensures { λ _. ⌜ now (table .exit) ≡ placesOf l w v edges count n (l .places) (now (table .entry)) ⌝ }
 {
     let m = l.places;
+    let mut best = r;
     let mut p: usize = 0;
     while p < m {
         let entered = v.entered[p];
         let staying = v.staying[p];
-        place(table, l, w, edges, count, links, entered, staying, n, p);
+        best = place(
+            table,
+            l,
+            w,
+            edges,
+            count,
+            links,
+            tells,
+            entered,
+            staying,
+            n,
+            p,
+            best,
+        );
         p += 1;
     }
+    best
+}
+
+// Where a run of this length may end: in the end places, if it is long enough.
+fn tells_at(ends: [bool; 16], low: usize, ticks: usize) -> [bool; 16]
+    ensures { λ r. ⌜ r ≡ tellsAt ends low ticks ⌝ }
+{
+    if ticks < low { [false; 16] } else { ends }
 }
 
 // Row n + 1 anew, from row n.
@@ -275,15 +382,20 @@ fn advance(
     edges: [Edge; 32],
     count: usize,
     links: &[u8; 48],
+    ends: [bool; 16],
+    low: usize,
     n: usize,
-)
+    r: Report,
+) -> Report
     requires { ⌜ (Known l v edges count) × (Linked edges count (now links)) × (Ready (now table) l n) ⌝ }
+    ensures { λ q. ⌜ q ≡ toldRow l w v edges count ends low n (now (table .entry)) r ⌝ }
     ensures { λ _. ⌜ now (table .exit) ≡ rowOf l w v edges count n (now (table .entry)) ⌝ }
 {
     let size = l.row;
     let at = (n + 1) * size;
     clear(table, at, at + size);
-    row(table, l, w, v, edges, count, links, n);
+    let tells = tells_at(ends, low, n + 1);
+    row(table, l, w, v, edges, count, links, &tells, n, r)
 }
 
 // All rows, the longest first.
@@ -295,15 +407,20 @@ fn rows(
     edges: [Edge; 32],
     count: usize,
     links: &[u8; 48],
-)
+    ends: [bool; 16],
+    low: usize,
+) -> Report
     requires { ⌜ (Known l v edges count) × (Linked edges count (now links)) × (Rows (now table) l) ⌝ }
+    ensures { λ q. ⌜ q ≡ toldOf l w v edges count ends low (now (table .entry)) ⌝ }
     ensures { λ _. ⌜ now (table .exit) ≡ rowsOf l w v edges count (l .high) (now (table .entry)) ⌝ }
 {
+    let mut best = no_report();
     let mut n = l.high;
     while 0 < n {
         n -= 1;
-        advance(table, l, w, v, edges, count, links, n);
+        best = advance(table, l, w, v, edges, count, links, ends, low, n, best);
     }
+    best
 }
 
 fn seed(table: &mut [i64], on: bool, at: usize, worth: i64)
@@ -331,7 +448,7 @@ fn begin(table: &mut [i64], l: Layout, w: Weighing, starts: [bool; 16])
     }
 }
 
-// The table one tick later. Cells past those needed are untouched.
+// The table one tick later, and the report of its ends. Cells past those needed are untouched.
 pub fn tick(
     table: &mut [i64],
     l: Layout,
@@ -340,14 +457,18 @@ pub fn tick(
     edges: [Edge; 32],
     count: usize,
     starts: [bool; 16],
-)
+    ends: [bool; 16],
+    low: usize,
+) -> Report
     requires { ⌜ Ticking (now table) l v edges count ⌝ }
+    ensures { λ q. ⌜ q ≡ toldOf l w v edges count ends low (now (table .entry)) ⌝ }
     ensures { λ _. ⌜ now (table .exit) ≡ tickOf l w v edges count starts (now (table .entry)) ⌝ }
 {
     let links = links_of(edges, count);
-    rows(table, l, w, v, edges, count, &links);
+    let told = rows(table, l, w, v, edges, count, &links, ends, low);
     clear(table, 0, l.row);
     begin(table, l, w, starts);
+    told
 }
 
 // All cells needed are marks, but for the empty runs.

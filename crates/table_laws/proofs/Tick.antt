@@ -27,7 +27,7 @@ use Rattle.cells.specs.Index.{codeOf, clocksAt, ticked, blockAt, indexOf, lenAt
 use Rattle.pattern.proofs.ListLaws.{length-zip}
 use Rattle.pattern.proofs.SoundLaws.{both}
 use Rattle.cells.proofs.Digits.{block-some, coded, code-of-clocks, clocks-of-code, clocks-within, ticked-within, reset-within}
-use Rattle.cells.proofs.Blocks.{row-next, row-first, below-block, block-low, at}
+use Rattle.cells.proofs.Blocks.{row-next, row-first, below-block, block-low, block-in, at}
 use Rattle.walks.specs.Automaton.{Automaton, TickView, State, entering, stayed, taken, Same}
 use Rattle.walks.specs.Walks.{Move, stays, takes}
 use Rattle.walks.specs.Tables.{Table, opening, next}
@@ -134,6 +134,21 @@ module _ (l : Layout) (w : Weighing) (v : View) (es : List Edge) (count : ℕ) (
       to-offered n (edgeIn es (o .which)) true j x low (k .froms (o .which) (o .low)) (f .from) (f .passes)
       (subst (Move A (l .high) (from-state n (f .from) (edgeIn es (o .which) .from) (f .passes .cell))) same
       (takes low (record { known = known; fits = about .source-is (edgeIn es (o .which)); guarded = true-T _ goes })))
+
+  -- where a move along an edge leads, and where a stay does
+  pub edge-state : (n j : ℕ) (x : ℤ) → n < l .high → (o : Goes l w v (edgeIn es) n 0 count t j x) → (j < cellsIn l) × (stateAt l j .len ≡ suc n) × (stateAt l j .entered ≡ true) × (stateAt l j .place ≡ edgeIn es (o .which) .to)
+  edge-state n j x low o =
+      let f = o .follows in
+      let e = lands-state n (edgeIn es (o .which)) true (clocksAt (l .radices) (f .passes .cell)) j low (k .tos (o .which) (o .low)) (about .four (o .which) (o .low)) (clocks-four (f .passes .cell)) (f .passes .moves .lands) in
+      let c = coded l (afterResets (edgeIn es (o .which)) (ticked (l .radices) (clocksAt (l .radices) (f .passes .cell)))) (k .laid) (reset-within (l .radices) (edgeIn es (o .which)) _ (ticked-within l (clocksAt (l .radices) (f .passes .cell)) (k .laid))) .whole in
+      let b = block-in l (n + 1) 0 (edgeIn es (o .which) .to) (record { laid = k .laid; low = omega arith; stages = omega arith; place = k .tos (o .which) (o .low) }) in
+      let m = f .passes .moves .lands in
+      (omega arith, ap (λ (s : State Clocks). s .len) e, ap (λ (s : State Clocks). s .entered) e, ap (λ (s : State Clocks). s .place) e)
+
+  pub stay-state : (n j : ℕ) (x : ℤ) → n < l .high → Goes l w v still n 1 (l .places) t j x → stateAt l j .entered ≡ false
+  stay-state n j x low o =
+      let f = o .follows in
+      ap (λ (s : State Clocks). s .entered) (lands-state n (still (o .which)) false (clocksAt (l .radices) (f .passes .cell)) j low (o .low) refl (clocks-four (f .passes .cell)) (f .passes .moves .lands))
 
   pub to-walks : (n j : ℕ) (x : ℤ) → n < l .high → RowOffers l w v es count n t j x → Offered (weightingOf w) A (l .high) g U all (stateAt l j) x
   to-walks n j x low = ⊎-elim (stay-offered n j x low) (edge-offered n j x low)

@@ -1,5 +1,5 @@
 -- What is claimed, and proved in proofs/.
-use Prim.Native.Nat.{ℕ, _+_, _≤_, _<_}
+use Prim.Native.Nat.{ℕ, _≤_, _<_}
 use mathlib.Core.Path.{_≡_}
 use mathlib.Core.Bool.{Bool}
 use mathlib.Core.List.{List}
@@ -17,7 +17,7 @@ use Rattle.walks.specs.Tables.{Table, opening, next}
 use Rattle.walks.specs.Reports.{report}
 use Rattle.table.specs.declared.View.{View}
 use Rattle.table.specs.Moves.{cellAt, tickOf, openOf}
-use Rattle.table.specs.Reports.{reportOf}
+use Rattle.table.specs.Reports.{toldOf}
 use Rattle.table.specs.Asks.{Whole, Ticking, Filed}
 use Rattle.table_laws.specs.Meaning.{stateAt, statesOf, tableOf, resultOf, About, Seen, Viewed}
 
@@ -49,7 +49,17 @@ module _ (l : Layout) (w : Weighing) (v : View) (es : List Edge) (count : ℕ) (
       → (length (tickOf l w v es count starts t) ≡ length t)
       × ((i : ℕ) → cellsIn l ≤ i → cellAt (tickOf l w v es count starts t) i ≡ cellAt t i)
 
--- 4. The opened table holds the empty runs and nothing else; further cells are untouched.
+  -- 4. The report of a tick is that of the table one tick later: the best worth in it at which a run may end, and the least
+  -- length that has it.
+  abbrev pub ToldIsReport : Type 0
+  ToldIsReport =
+      (A : Automaton Clocks Edge) → About A l es count starts ends → (Q : Same Clocks) (low : ℕ) → 1 ≤ low
+      → (t : List ℤ) → Ticking t l v es count
+      → (all : List (State Clocks)) (U : Table ℤ Clocks) → Seen l t all U → (g : TickView ℤ) → Viewed l v g
+      → resultOf (toldOf l w v es count ends low t)
+      ≡ report (weightingOf w) A low all (next (weightingOf w) A Q (l .high) all g U)
+
+-- 5. The opened table holds the empty runs and nothing else; further cells are untouched.
 abbrev pub OpenIsOpening : Layout → Weighing → (starts : List Bool) → Type 0
 OpenIsOpening l w starts =
     (es : List Edge) (count : ℕ) (ends : List Bool) (A : Automaton Clocks Edge) → About A l es count starts ends
@@ -70,14 +80,6 @@ OpenLeavesFurther l w starts =
     (t : List ℤ) → Filed t l
     → (length (openOf l w starts t) ≡ length t)
     × ((i : ℕ) → cellsIn l ≤ i → cellAt (openOf l w starts t) i ≡ cellAt t i)
-
--- 5. The report is the best worth at which a run may end, and the least length that has it.
-abbrev pub ReportIsReport : Layout → Weighing → (ends : List Bool) → Type 0
-ReportIsReport l w ends =
-    (es : List Edge) (count : ℕ) (starts : List Bool) (A : Automaton Clocks Edge) → About A l es count starts ends
-    → (low : ℕ) (t : List ℤ) → low ≤ l .high + 1 → Filed t l → Whole t l
-    → (all : List (State Clocks)) (U : Table ℤ Clocks) → Seen l t all U
-    → resultOf (reportOf l w ends low t) ≡ report (weightingOf w) A low all U
 
 -- The states in the cells' order, and what the cells hold, are such.
 abbrev pub TableIsSeen : Layout → Type 0

@@ -1,22 +1,42 @@
 -- What a table reports: the best of what is reached where a run may end, the shortest among equals. From any table.
 use mathlib.Core.Path.{_≡_, refl, sym, ap, subst, _∙_}
 use mathlib.Core.Option.{Option, none, some}
-use mathlib.Core.Logic.{⊎-elim}
+use mathlib.Core.Bool.{true, _&&_}
+use mathlib.Core.Logic.{inr, ⊎-elim}
 use mathlib.Core.List.{List, [], _∷_, List·Memᴰ, List·Memᴰ·head, List·Memᴰ·tail, List·Memᴰ·cases-cons, List·Memᴰ·not-nil, List·Memᴰ·eq-of-singleton, List·Memᴰ·append-cases, Memᴰ·append-left, Memᴰ·append-right}
-use Prim.Native.Nat.{ℕ}
+use Prim.Native.Nat.{ℕ, _≤_}
 use native.Mathlib.Omega.{arith}
-use lib.Dec.{T}
+use lib.Dec.{T, leb, leb→le, le→leb}
+use Rattle.integers.proofs.Tests.{T-true, and-l, and-r, and-in}
 use Rattle.weighting.specs.Order.{IsBest}
 use Rattle.weighting.specs.Weighting.{Weighting}
 use Rattle.weighting.proofs.Best.{IsBest-more, bestOf-best}
 use Rattle.weighting.specs.Shortest.{shortest}
 use Rattle.weighting.proofs.Shortest.{shortest-in}
-use Rattle.walks.specs.Automaton.{Automaton, View, State, Same}
+use Rattle.walks.specs.Automaton.{Automaton, TickView, View, State, Same}
 use Rattle.walks.specs.Walks.{Reach}
-use Rattle.walks.specs.Tables.{Table, tableAt, Closed, Within}
+use Rattle.walks.specs.Tables.{Table, next, tableAt, Closed, Within}
 use Rattle.walks.specs.Reports.{ending, entry, entries, report}
 use Rattle.walks.proofs.Tests.{of-cond, in-cond}
-use Rattle.walks.proofs.TableBest.{reach-in, table-best}
+use Rattle.walks.proofs.States.{opening-holds}
+use Rattle.walks.proofs.Offers.{Offered}
+use Rattle.walks.proofs.TableBest.{Comes, next-best, reach-in, table-best}
+
+-- what `ending` says
+module _ {C E : Type 0} (A : Automaton C E) (low : ℕ) (s : State C) where
+  pub ending-out : T (ending A low s) → (s .entered ≡ true) × T (A .isEnd (s .place)) × (low ≤ s .len)
+  unfolding ending
+  ending-out h = (
+    T-true (s .entered) (search and-l),
+    search (and-l, and-r),
+    leb→le low (s .len) (search (and-l, and-r)),
+  )
+
+  pub ending-in : s .entered ≡ true → T (A .isEnd (s .place)) → low ≤ s .len → T (ending A low s)
+  unfolding ending
+  ending-in e h l =
+      and-in (s .entered) (A .isEnd (s .place) && leb low (s .len)) (rw e tt)
+      (and-in (A .isEnd (s .place)) (leb low (s .len)) h (le→leb low (s .len) l))
 
 -- r is the worth and the length of a cell of ss at which a run may end
 pub record Entered {W C E : Type 0} (A : Automaton C E) (low : ℕ) (U : Table W C) (ss : List (State C)) (r : W × ℕ) : Type 0 where
@@ -101,3 +121,52 @@ module _ {W C E : Type 0} (𝓦 : Weighting W) (A : Automaton C E) (Q : Same C) 
       (λ r m. entry-ends r (of-entries A low U all r m))
       ends-entry
       (report 𝓦 A low all U) (bestOf-best (shortest (𝓦 .order)) (entries A low U all))
+
+-- ---- one tick
+
+-- r is the worth and the length of what one tick offers to a cell at which a run may end
+pub record Into {W C E : Type 0} (𝓦 : Weighting W) (A : Automaton C E) (high : ℕ) (g : TickView W) (U : Table W C) (all : List (State C)) (low : ℕ) (r : W × ℕ) : Type 0 where
+  pub there : State C
+  pub is-cell : List·Memᴰ there all
+  pub may-end : T (ending A low there)
+  pub offered : Offered 𝓦 A high g U all there (r .0)
+  pub len-is : there .len ≡ r .1
+
+-- The report of the table one tick later is the best of what the tick offers: a cell of length 1 or more holds the best of
+-- what was offered to it.
+module _ {W C E : Type 0} (𝓦 : Weighting W) (A : Automaton C E) (Q : Same C) (high : ℕ) (all : List (State C)) (g : TickView W) (U : Table W C) (low : ℕ) (some-low : 1 ≤ low) where
+  abbrev N : Table W C
+  N = next 𝓦 A Q high all g U
+
+  offered-only : (s : State C) (v : W) → T (ending A low s) → Comes 𝓦 A Q high all g U s v → Offered 𝓦 A high g U all s v
+  offered-only s v h =
+      ⊎-elim
+      (λ o.
+      let z : s .len ≡ 0 = ap (λ (y : State C). y .len) (opening-holds 𝓦 A Q s v o .1) in
+      let long = ending-out A low s h .2 in
+      absurd (omega arith))
+      (λ o. o)
+
+  entry-into : (r : W × ℕ) → Entered A low N all r → Into 𝓦 A high g U all low r
+  entry-into r k =
+      let b : IsBest (𝓦 .order) (Comes 𝓦 A Q high all g U (k .cell)) (some (r .0)) = rw (k .holds) at (next-best 𝓦 A Q high all g U (k .cell)) in
+      record { there = k .cell; is-cell = k .is-cell; may-end = k .ends; offered = offered-only (k .cell) (r .0) (k .ends) (b .0); len-is = k .len-is }
+
+  into-entry : (r : W × ℕ) → Into 𝓦 A high g U all low r → (q : W × ℕ) × List·Memᴰ q (entries A low N all) × T (shortest (𝓦 .order) .atLeast q r)
+  into-entry r k = go (N (k .there)) refl (next-best 𝓦 A Q high all g U (k .there))
+    where
+      go : (o : Option W) → N (k .there) ≡ o → IsBest (𝓦 .order) (Comes 𝓦 A Q high all g U (k .there)) o → (q : W × ℕ) × List·Memᴰ q (entries A low N all) × T (shortest (𝓦 .order) .atLeast q r)
+      go none e h = absurd (h (r .0) (inr (k .offered)))
+      go (some w) e h = (
+        (w, k .there .len),
+        to-entries A low N (k .there) w all (k .is-cell) (k .may-end) e,
+        shortest-in (𝓦 .order) (w, k .there .len) r (h .1 (r .0) (inr (k .offered)), λ _. omega (arith, k .len-is)),
+      )
+
+  pub offers-best : IsBest (shortest (𝓦 .order)) (Into 𝓦 A high g U all low) (report 𝓦 A low all N)
+  unfolding report
+  offers-best =
+      IsBest-more (shortest (𝓦 .order))
+      (λ r m. entry-into r (of-entries A low N all r m))
+      into-entry
+      (report 𝓦 A low all N) (bestOf-best (shortest (𝓦 .order)) (entries A low N all))

@@ -1,12 +1,10 @@
 -- Reports speak of runs: what is reached with held clocks where a run may end is a run with plain clocks, and back.
 use mathlib.Core.Path.{_≡_, sym, subst}
-use mathlib.Core.Bool.{true, _&&_}
 use mathlib.Core.Option.{Option, none, some}
 use mathlib.Core.List.{List, List·Memᴰ}
 use Prim.Native.Nat.{ℕ, _≤_}
 use native.Mathlib.Omega.{arith}
-use lib.Dec.{T, leb, leb→le, le→leb}
-use Rattle.integers.proofs.Tests.{T-true, and-l, and-r, and-in}
+use lib.Dec.{T}
 use Rattle.weighting.specs.Order.{IsBest}
 use Rattle.weighting.specs.Weighting.{Weighting}
 use Rattle.weighting.specs.Shortest.{shortest}
@@ -15,34 +13,18 @@ use Rattle.weighting.proofs.Shortest.{shortest-out}
 use Rattle.walks.specs.Automaton.{Automaton, View, State, Same}
 use Rattle.walks.specs.Holding.{Holding, heldAt}
 use Rattle.walks.specs.Tables.{opening, Closed, Within}
-use Rattle.walks.specs.Reports.{ending, reportAt, Wanted, Reported}
+use Rattle.walks.specs.Reports.{reportAt, Wanted, Reported}
 use Rattle.walks.specs.Claims.{Worthy, ReportsBest, ReportsSay}
 use Rattle.walks.proofs.States.{opening-holds}
 use Rattle.walks.proofs.TableBest.{reach-in}
 use Rattle.walks.proofs.RunsAreWalks.{runs-are-held-walks}
-use Rattle.walks.proofs.Entries.{Ends, report-best}
+use Rattle.walks.proofs.Entries.{ending-out, ending-in, Ends, report-best}
 
 -- the opening table has nothing outside the cells
 pub opening-within : {W C E : Type 0} (𝓦 : Weighting W) (A : Automaton C E) (Q : Same C) (high : ℕ) (all : List (State C)) → Closed A high all → Within all (opening 𝓦 A Q)
 opening-within {C = C} 𝓦 A Q high all closed s w e =
     let k = opening-holds 𝓦 A Q s w e in
     subst (λ (y : State C). List·Memᴰ y all) (sym (k .1)) (closed .begins-in (s .place) (k .0))
-
--- what `ending` says
-module _ {C E : Type 0} (A : Automaton C E) (low : ℕ) (s : State C) where
-  ending-out : T (ending A low s) → (s .entered ≡ true) × T (A .isEnd (s .place)) × (low ≤ s .len)
-  unfolding ending
-  ending-out h = (
-    T-true (s .entered) (search and-l),
-    search (and-l, and-r),
-    leb→le low (s .len) (search (and-l, and-r)),
-  )
-
-  ending-in : s .entered ≡ true → T (A .isEnd (s .place)) → low ≤ s .len → T (ending A low s)
-  unfolding ending
-  ending-in e h l =
-      and-in (s .entered) (A .isEnd (s .place) && leb low (s .len)) (rw e tt)
-      (and-in (A .isEnd (s .place)) (leb low (s .len)) h (le→leb low (s .len) l))
 
 module _ {W C E : Type 0} (𝓦 : Weighting W) (A : Automaton C E) (Q : Same C) (𝓥 : View W) (high : ℕ) (worthy : Worthy 𝓦 𝓥) (hold : C → C) (h : Holding A hold) (all : List (State C)) (closed : Closed (heldAt hold A) high all) (low : ℕ) (one-low : 1 ≤ low) (n : ℕ) where
   abbrev B : Automaton C E

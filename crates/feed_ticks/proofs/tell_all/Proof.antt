@@ -36,7 +36,6 @@ tell-requires c κs =
     let sr = b .pre .scoresLong in
     let nr = b .pre .lengthsLong in (
       subst (λ (x : View). Ticking (l .first) (a .l) x (a .edges) (a .count)) (sym (c .before .before .before .view-at .ensures)) (ticking-at (groundOf (a .l) (a .w) (a .edges) (a .count) (a .starts) (a .ends) (a .low)) (a .v) (a .u) (a .first .now) (a .scores .now) (a .lengths .now) (a .duration) (b .pre) (l .i) (l .first) (l .scores) (l .lengths) (l .inv)),
-      b .pre .low,
       omega arith,
       omega arith,
     )

@@ -1,8 +1,10 @@
--- `leave` turns into the block that the edge leads to.
+-- `leave` turns into the block that the edge leads to, and notes what a run may end with.
 use native.Mathlib.Omega.{arith}
-use borrow.Author.Needs.{needs}
+use mathlib.Core.Path.{refl}
 use mir.Facts.{toZ-ofZ}
 use Rattle.table.proofs.Steps.{next-in}
+use Rattle.table.proofs.Told.{told-move}
+use borrow.Author.Needs.{needs}
 use Rattle.table.proofs.leave.Statement.{statement}
 use Rattle.table.proofs.leave.Tie as tie
 
@@ -20,14 +22,33 @@ turn-requires c κs = let st = c .before .before .before in
     let m = st .pre .0 in
     (m .laid, m .within, next-in m (c .before .block-at .ensures) (omega arith) (st .pre .1))
 
+element-copy-out-told : tie.Need-element-copy-out-told
+element-copy-out-told c = search needs
+
+add-note-if : tie.Need-add-note-if
+add-note-if c = search needs
+
+note-if-requires : tie.Need-note-if-requires
+note-if-requires c κs = search needs
+
 same-length : tie.Need-same-length
 same-length c = search needs
 
 returns : tie.Need-returns
-returns c = let q = toZ-ofZ (c .before .before .before .before .before .fits .worth) in
-    rw (q, c .before .before .before .block-at .ensures) at (c .before .turn .ensures)
+returns c = let st = c .before .before .before .before .before .before .before in
+    let q = toZ-ofZ (st .fits .worth) in
+    (told-move _ _ _ _ _ _ _ _ _ _ (c .before .before .before .turn .ensures .0) refl (rw q at (c .note-if .ensures)), rw (q, c .before .before .before .before .before .block-at .ensures) at (c .before .before .before .turn .ensures .1))
 
 pub leave-spec : {M : Type 1} → statement M
 leave-spec =
     tie.close
-    (tie.spec cast-end add-block-at block-at-requires turn-requires same-length returns)
+    (tie.spec
+    cast-end
+    add-block-at
+    block-at-requires
+    turn-requires
+    element-copy-out-told
+    add-note-if
+    note-if-requires
+    same-length
+    returns)

@@ -1,7 +1,11 @@
 -- `place` moves the cells just entered and then those staying; the row that it reads lies before the row that it writes.
+use Prim.Native.Nat.{_+_, _*_}
+use native.Mathlib.Omega.{arith}
 use borrow.Author.Needs.{needs}
 use mir.Facts.{toZ-ofZ}
+use Rattle.table.proofs.Kept.{Kept, pass-kept}
 use Rattle.table.proofs.Steps.{place-first, place-second, place-moved}
+use Rattle.table.proofs.Told.{told-place}
 use Rattle.table.proofs.place.Statement.{statement}
 use Rattle.table.proofs.place.Tie as tie
 
@@ -22,7 +26,7 @@ pass-requires-2 c κs = let st = c .before .before .before .before .before .befo
     let a = st .args in
     let q = toZ-ofZ (st .fits .entered) in
     let r = toZ-ofZ (st .fits .staying) in
-    (rw r (place-second (a .table .now) (a .l) (a .w) (a .edges) (a .count) (a .entered) (a .staying) (a .n) (a .p) _ _ (st .pre .0) (c .before .before .before .before .before .block-at .ensures) (c .before .before .before .before .block-at2 .ensures) _ (rw q at (c .before .before .pass .ensures))), st .pre .1)
+    (rw r (place-second (a .table .now) (a .l) (a .w) (a .edges) (a .count) (a .entered) (a .staying) (a .n) (a .p) _ _ (st .pre .0) (c .before .before .before .before .before .block-at .ensures) (c .before .before .before .before .block-at2 .ensures) _ (rw q at (c .before .before .pass .ensures .1))), st .pre .1)
 
 same-length : tie.Need-same-length
 same-length c = search needs
@@ -32,7 +36,12 @@ returns c = let st = c .before .before .before .before .before .before .before .
     let a = st .args in
     let q = toZ-ofZ (st .fits .entered) in
     let r = toZ-ofZ (st .fits .staying) in
-    place-moved (a .table .now) (a .l) (a .w) (a .edges) (a .count) (a .entered) (a .staying) (a .n) (a .p) _ _ (st .pre .0) (c .before .before .before .before .before .before .before .block-at .ensures) (c .before .before .before .before .before .before .block-at2 .ensures) _ _ (rw q at (c .before .before .before .before .pass .ensures)) (rw r at (c .before .pass2 .ensures))
+    let ea = c .before .before .before .before .before .before .before .block-at .ensures in
+    let eb = c .before .before .before .before .before .before .block-at2 .ensures in
+    let e = rw q at (c .before .before .before .before .pass .ensures .1) in
+    let low = st .pre .0 .ready .low in
+    let kept : Kept ((a .n + 1) * a .l .row) (a .table .now) (c .before .before .before .before .pass .last .0) = rw e (pass-kept (a .l) (a .w) (a .n) (a .edges) (a .count) (a .entered) (a .p) _ (a .table .now)) in
+    (told-place (a .l) (a .w) (a .edges) (a .count) (a .tells .now) (a .entered) (a .staying) (a .n) (a .p) _ _ (a .table .now) _ (a .r) _ _ (st .pre .0 .laid) (omega arith) (st .pre .0 .place) ea eb kept (rw q at (c .before .before .before .before .pass .ensures .0)) (rw r at (c .before .pass2 .ensures .0)), place-moved (a .table .now) (a .l) (a .w) (a .edges) (a .count) (a .entered) (a .staying) (a .n) (a .p) _ _ (st .pre .0) ea eb _ _ e (rw r at (c .before .pass2 .ensures .1)))
 
 pub place-spec : {M : Type 1} → statement M
 place-spec =

@@ -22,7 +22,7 @@ same-length c = search needs
 
 returns : tie.Need-returns
 returns c = let a = c .before .before .before .before .before .before .before .before .before .before .before .args in
-    tick-is (a .l) (a .w) (a .v) (a .edges) (a .count) (a .starts) (a .table .now) _ _ _ (c .before .before .before .before .before .before .before .rows .ensures) (c .before .before .before .before .clear .ensures) (c .before .begin .ensures)
+    (c .before .before .before .before .before .before .before .rows .ensures .0, tick-is (a .l) (a .w) (a .v) (a .edges) (a .count) (a .starts) (a .table .now) _ _ _ (c .before .before .before .before .before .before .before .rows .ensures .1) (c .before .before .before .before .clear .ensures) (c .before .begin .ensures))
 
 pub tick-spec : {M : Type 1} → statement M
 tick-spec = tie.close (tie.spec links-of-requires rows-requires clear-requires begin-requires same-length returns)

@@ -45,11 +45,12 @@ returns c = let st = c .before .before .before .before .before .before .before i
     let a = st .args in
     let q = toZ-ofZ (st .fits .worth) in
     let h = sym (c .before .before .before .before .before .before .guards-hold .ensures) ∙ c .before .before .before .before .before .if1 .taken in
-    moved-is (a .l) (a .w) (a .e) (a .to) (a .clocks) _ (a .worth) _ (a .table .now) _ h (c .before .before .before .before .after-resets .ensures) (c .before .before .before .code .ensures) (rw q at (c .before .offer .ensures))
+    (sym h, moved-is (a .l) (a .w) (a .e) (a .to) (a .clocks) _ (a .worth) _ (a .table .now) _ h (c .before .before .before .before .after-resets .ensures) (c .before .before .before .code .ensures) (rw q at (c .before .offer .ensures)))
 
 returns-2 : tie.Need-returns-2
 returns-2 c = let a = c .before .before .args in
-    moved-no (a .l) (a .w) (a .e) (a .to) (a .clocks) (a .worth) (a .table .now) (sym (c .before .guards-hold .ensures) ∙ c .if1 .left)
+    let h = sym (c .before .guards-hold .ensures) ∙ c .if1 .left in
+    (sym h, moved-no (a .l) (a .w) (a .e) (a .to) (a .clocks) (a .worth) (a .table .now) h)
 
 pub turn-spec : {M : Type 1} → statement M
 turn-spec =

@@ -1,19 +1,16 @@
--- `visit` looks at one cell; what it holds stays, and is told to be sent on.
+-- `visit` lets the worth of an occupied cell stay, and says what is to be sent on.
 use Prim.Native.Nat.{_+_}
 use native.Mathlib.Omega.{arith}
 use mathlib.Core.Path.{_≡_}
-use mathlib.Core.Bool.{true, false}
-use borrow.Author.Needs.{needs}
 use lib.IntN.{pos}
 use lib.ListN.{getD}
-use lib.Signed.{ltZ}
 use mir.Syntax.{w64}
 use mir.Val.{toZ, ofZ}
 use mir.Facts.{toZ-ofZ}
-use Rattle.weighting.specs.Cell.{mark}
 use Rattle.weighting.specs.Weightings.{weightingOf}
 use Rattle.cells.proofs.Digits.{ticked-within}
-use Rattle.table.proofs.Steps.{sized-in, cell-in, grown-fits, next-in, passing-moving, stay-is, stay-no, sent-is, sent-no}
+use Rattle.table.proofs.Steps.{sized-in, cell-in, grown-fits, next-in, passing-moving, stay-is, sent-is}
+use borrow.Author.Needs.{needs}
 use Rattle.table.proofs.visit.Statement.{statement}
 use Rattle.table.proofs.visit.Tie as tie
 
@@ -33,13 +30,12 @@ tick-clocks-requires : tie.Need-tick-clocks-requires
 tick-clocks-requires c κs = search needs
 
 combine-requires : tie.Need-combine-requires
-combine-requires c κs = let st = c .before .before .before in
+combine-requires c κs = let st = c .before .before in
     let a = st .args in
     let v = getD (a .table .now) (a .at + a .k) (pos 0) in
-    let p : toZ w64 (ofZ w64 v) ≡ v = toZ-ofZ {w = w64} {z = v} (record { sfits = c .before .before .v .given }) in
+    let p : toZ w64 (ofZ w64 v) ≡ v = toZ-ofZ {w = w64} {z = v} (record { sfits = c .before .v .given }) in
     let q = toZ-ofZ (st .fits .gain) in
-    let m : ltZ mark v ≡ true = rw p at (c .before .if1 .taken) in
-    rw (p, q) (grown-fits (a .w) v (a .gain) (sized-in (st .pre .0 .bounded .at (a .k) (st .pre .2)) m) (sized-in (st .pre .0 .gain) (st .pre .1)))
+    rw (p, q) (grown-fits (a .w) v (a .gain) (sized-in (st .pre .0 .bounded .at (a .k) (st .pre .2)) (st .pre .3)) (sized-in (st .pre .0 .gain) (st .pre .1)))
 
 cast-stay : tie.Need-cast-stay
 cast-stay c = search needs
@@ -54,7 +50,7 @@ block-at-requires : tie.Need-block-at-requires
 block-at-requires c κs = search needs
 
 turn-requires : tie.Need-turn-requires
-turn-requires c κs = let st = c .before .before .before .before .before .before .before in
+turn-requires c κs = let st = c .before .before .before .before .before .before in
     let m = passing-moving (c .before .before .before .before .tick-clocks .result) (st .pre .0) (rw (c .before .before .before .before .tick-clocks .ensures) (ticked-within (st .args .l) (st .args .clocks) (st .pre .0 .laid))) in
     (m .laid, m .within, next-in m (c .before .block-at .ensures) (omega arith) (st .pre .0 .place))
 
@@ -62,24 +58,16 @@ same-length : tie.Need-same-length
 same-length c = search needs
 
 returns : tie.Need-returns
-returns c = let st = c .before .before .before .before .before .before .before .before .before in
+returns c = let st = c .before .before .before .before .before .before .before .before in
     let a = st .args in
     let v = getD (a .table .now) (a .at + a .k) (pos 0) in
-    let p : toZ w64 (ofZ w64 v) ≡ v = toZ-ofZ {w = w64} {z = v} (record { sfits = c .before .before .before .before .before .before .before .before .v .given }) in
-    let m : ltZ mark v ≡ true = rw p at (c .before .before .before .before .before .before .before .if1 .taken) in
+    let p : toZ w64 (ofZ w64 v) ≡ v = toZ-ofZ {w = w64} {z = v} (record { sfits = c .before .before .before .before .before .before .before .v .given }) in
     let x = c .before .before .before .before .before .combine .result in
     let q = toZ-ofZ (st .fits .gain) in
     let f : x ≡ weightingOf (a .w) .combine v (a .gain) = rw (p, q) at (c .before .before .before .before .before .combine .ensures) in
     let k : toZ w64 (ofZ w64 x) ≡ x = toZ-ofZ {w = w64} {z = x} (record { sfits = c .before .before .before .before .before .combine .ok }) in
-    (sent-is (a .l) (a .w) (a .gain) (a .first) (a .none) (a .clocks) v _ x _ m (c .before .before .before .before .before .before .tick-clocks .ensures) f k, stay-is (a .l) (a .w) (a .gain) (a .n) (a .p) (a .at) (a .k) (a .clocks) (a .table .now) _ x _ _ _ m (c .before .before .before .before .before .before .tick-clocks .ensures) f (c .before .before .before .before .stay .ensures) (c .before .before .before .block-at .ensures) (rw k at (c .before .turn .ensures)))
-
-returns-2 : tie.Need-returns-2
-returns-2 c = let st = c .before .before in
-    let a = st .args in
-    let v = getD (a .table .now) (a .at + a .k) (pos 0) in
-    let p : toZ w64 (ofZ w64 v) ≡ v = toZ-ofZ {w = w64} {z = v} (record { sfits = c .before .v .given }) in
-    let m : ltZ mark v ≡ false = rw p at (c .if1 .left) in
-    (sent-no (a .l) (a .w) (a .gain) (a .first) (a .none) (a .clocks) v _ m p, stay-no (a .l) (a .w) (a .gain) (a .n) (a .p) (a .at) (a .k) (a .clocks) (a .table .now) m)
+    let e = c .before .before .before .before .before .before .tick-clocks .ensures in
+    (sent-is (a .l) (a .w) (a .gain) (a .n) (a .p) (a .at) (a .k) (a .clocks) (a .table .now) _ v x _ e f k, stay-is (a .l) (a .w) (a .gain) (a .n) (a .p) (a .at) (a .k) (a .clocks) (a .table .now) _ x _ _ _ e f (c .before .before .before .before .stay .ensures) (c .before .before .before .block-at .ensures) (rw k at (c .before .turn .ensures .1)))
 
 pub visit-spec : {M : Type 1} → statement M
 visit-spec =
@@ -96,5 +84,4 @@ visit-spec =
     block-at-requires
     turn-requires
     same-length
-    returns
-    returns-2)
+    returns)

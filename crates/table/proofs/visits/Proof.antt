@@ -1,37 +1,46 @@
--- `visits` goes through a block, cell by cell, with the clocks of each, and from each occupied one through the edges out of
--- its place. What is written lies after the block, so the cells still to visit are as they were.
+-- `visits` goes through the occupied cells of a block, with the clocks of each, and from each through the edges out of its
+-- place. What is written lies after the block, so the cells still to visit are as they were.
 use Prim.Native.Nat.{ℕ, _+_, _*_, _≤_, _<_, _-_, zero-le}
 use native.Mathlib.Omega.{arith}
 use mathlib.Core.Path.{_≡_, refl, sym, ap, _∙_}
+use mathlib.Core.Bool.{Bool, true}
 use borrow.Author.Needs.{needs}
 use lib.ListN.{length, getD}
 use lib.IntN.{ℤ}
+use lib.Signed.{ltZ}
 use mir.Syntax.{w64}
 use mir.Val.{toZ, ofZ}
 use mir.Facts.{toZ-ofZ}
+use Rattle.weighting.specs.Cell.{mark}
 use Rattle.cells.specs.Index.{clocksAt, Within}
-use Rattle.cells.proofs.Digits.{clocks-zero, block-small}
+use Rattle.cells.proofs.Digits.{clocks-zero, block-small, ticked-within}
+use Rattle.cells.proofs.Blocks.{row-fits}
+use Rattle.table.specs.declared.Sent.{Sent}
+use Rattle.table.specs.declared.report.Report.{Report}
 use Rattle.table.specs.Asks.{Hop, Passing}
-use Rattle.table.specs.Moves.{each, edgeIn, leaveOf, visitOf, visitsOf}
-use Rattle.table.proofs.Steps.{each-more, passing-kept, passing-moving, rest, hop-more, rest-end, sent-rest, sent-low, sent-first}
+use Rattle.table.specs.Moves.{cellAt, each, edgeIn, leaveOf, visitOf, visitsOf}
+use Rattle.table.specs.Reports.{toldLeave, toldVisit, toldVisits}
+use Rattle.table.proofs.Steps.{each-more, cell-in, passing-kept, passing-moving, rest, hop-more, hop-all, rest-end, leave-is, leave-no, sent-visit, visits-skip}
+use Rattle.table.proofs.Told.{told-is, told-no, visit-same, told-visit, told-skip}
 use Rattle.table.proofs.Kept.{Kept, kept-refl, kept-trans, turn-kept, stay-kept, visit-kept}
 use Rattle.table.proofs.visits.Statement.{statement}
 use Rattle.table.proofs.visits.Tie as tie
 
--- what is left of the edges, done to the table so far, is what was left at first
 abbrev Inv-loop2 : tie.InvT-loop2
-Inv-loop2 table₀ l w count links gain n p at edges size first clocks k ticked worth i₀ table i =
-    (i ≤ count) × ((i < count → (edgeIn edges i .from ≡ p) × Within (l .radices) ticked) × ((Kept ((n + 1) * l .row) table₀ table) × (rest (λ j. leaveOf l w n p ticked (toZ w64 worth) (edgeIn edges j)) i (count - i) table ≡ rest (λ j. leaveOf l w n p ticked (toZ w64 worth) (edgeIn edges j)) i₀ (count - i₀) table₀)))
+Inv-loop2 table₀ l w count links tells gain n p at start edges size first best₀ last k here ticked worth i₀ table best i =
+    (i ≤ count) × ((i < count → edgeIn edges i .from ≡ p) × ((Kept ((n + 1) * l .row) table₀ table) × ((rest (λ j. leaveOf l w n p ticked (toZ w64 worth) (edgeIn edges j)) i (count - i) table ≡ rest (λ j. leaveOf l w n p ticked (toZ w64 worth) (edgeIn edges j)) i₀ (count - i₀) table₀) × (rest (λ j. toldLeave w tells n p ticked (toZ w64 worth) (edgeIn edges j)) i (count - i) best ≡ rest (λ j. toldLeave w tells n p ticked (toZ w64 worth) (edgeIn edges j)) i₀ (count - i₀) best₀))))
 
 abbrev μ-loop2 : tie.MeasureT-loop2
-μ-loop2 table₀ l w count links gain n p at edges size first clocks k ticked worth i₀ table i = count - i
+μ-loop2 table₀ l w count links tells gain n p at start edges size first best₀ last k here ticked worth i₀ table best i =
+    count - i
 
 abbrev Inv-loop : tie.InvT-loop
-Inv-loop table₀ l w count links gain n p at edges size first clocks₀ k₀ table clocks k =
-    (k ≤ size) × ((length table ≡ length table₀) × ((Passing table l (toZ w64 gain) n p at) × ((clocks ≡ clocksAt (l .radices) k) × (table ≡ visitsOf l w edges count (toZ w64 gain) n p at k table₀))))
+Inv-loop table₀ l w count links tells gain n p at start edges size first best₀ last₀ clocks₀ k₀ table best last clocks k =
+    (k ≤ size) × ((Kept ((n + 1) * l .row) table₀ table) × ((last ≤ k) × ((clocks ≡ clocksAt (l .radices) last) × ((k < size → ltZ mark (cellAt table (at + k)) ≡ true) × ((table ≡ visitsOf l w edges count (toZ w64 gain) n p at k table₀) × (best ≡ toldVisits l w edges count tells (toZ w64 gain) n p at k table₀ best₀))))))
 
 abbrev μ-loop : tie.MeasureT-loop
-μ-loop table₀ l w count links gain n p at edges size first clocks₀ k₀ table clocks k = size - k
+μ-loop table₀ l w count links tells gain n p at start edges size first best₀ last₀ clocks₀ k₀ table best last clocks k =
+    size - k
 
 add-first : tie.Need-add-first Inv-loop2 μ-loop2 Inv-loop μ-loop
 add-first c = let h = c .pre .0 .place in
@@ -54,99 +63,123 @@ cast-first c = let st = c .before in
 loop-holds : tie.Need-loop-holds Inv-loop2 μ-loop2 Inv-loop μ-loop
 unfolding each
 loop-holds c = let st = c .before in
-    (zero-le, (refl, (rw (toZ-ofZ (st .fits .gain)) (st .pre .0), (sym (clocks-zero (st .args .l .radices)), refl))))
+    let a = st .args in
+    let o = st .pre .3 in
+    (o .below, (kept-refl _ _, (zero-le, (sym (clocks-zero (a .l .radices)), (o .holds, (visits-skip (a .l) (a .w) (a .t4) (a .count) _ (a .n) (a .p) (a .at) 0 _ (a .table .now) zero-le (o .skips), told-skip (a .l) (a .w) (a .t4) (a .count) (a .tells .now) _ (a .n) (a .p) (a .at) (a .table .now) 0 _ (a .r) zero-le (o .skips)))))))
+
+clocks-to-requires : tie.Need-clocks-to-requires Inv-loop2 μ-loop2 Inv-loop μ-loop
+clocks-to-requires c κs = let l = c .before .loop in
+    (c .before .before .before .pre .0 .laid, l .inv .1 .1 .0, omega arith, l .inv .1 .1 .1 .0)
 
 visit-requires : tie.Need-visit-requires Inv-loop2 μ-loop2 Inv-loop μ-loop
-visit-requires c κs = let st = c .before .before .before .before in
-    let l = c .before .before .loop in
-    (l .inv .1 .1 .0, rw (toZ-ofZ (st .fits .gain)) (st .pre .2), omega arith)
+visit-requires c κs = let st = c .before .before .before .before .before in
+    let l = c .before .before .before .loop in
+    let q = toZ-ofZ (st .fits .gain) in
+    (rw q (passing-kept (l .inv .1 .0) (st .pre .0)), rw q (st .pre .2), omega arith, l .inv .1 .1 .1 .1 .0 (omega arith))
 
 loop2-holds : tie.Need-loop2-holds Inv-loop2 μ-loop2 Inv-loop μ-loop
-loop2-holds c = let st = c .before .before .before .before .before .before .before .before in
+loop2-holds c = let st = c .before .before .before .before .before .before .before .before .before in
     let a = st .args in
-    let l = c .before .before .before .before .before .before .loop in
-    let s = c .before .before .before .visit .result in
-    let e = c .before .before .before .visit .ensures .0 in
     let hop = st .pre .1 .linked .firsts (a .p) (let h = st .pre .0 .place in let f = st .pre .0 .laid .few in omega arith) in
-    (sent-low (a .l) (a .w) _ _ (a .count) (l .clocks) _ s (hop .below) e, ((λ h. let r = sent-first (a .l) (a .w) _ _ (a .count) (l .clocks) _ s (st .pre .0 .laid) e h in (rw (r .0) (hop .lands (rw (r .0) at h)), r .1)), (kept-refl _ _, refl)))
+    (hop .below, (hop .lands, (kept-refl _ _, (refl, refl))))
 
 mul-e : tie.Need-mul-e Inv-loop2 μ-loop2 Inv-loop μ-loop
-mul-e c = let h = c .before .before .before .before .before .before .before .before .before .before .pre .1 .few in
+mul-e c = let h = c .before .before .before .before .before .before .before .before .before .before .before .pre .1 .few in
     omega arith
 
 array-copy-out-e : tie.Need-array-copy-out-e Inv-loop2 μ-loop2 Inv-loop μ-loop
-array-copy-out-e c = let h = c .before .before .before .before .before .before .before .before .before .before .pre .1 .few in
+array-copy-out-e c = let h = c .before .before .before .before .before .before .before .before .before .before .before .pre .1 .few in
     omega arith
 
 leave-requires : tie.Need-leave-requires Inv-loop2 μ-loop2 Inv-loop μ-loop
-leave-requires c κs = let st = c .before .before .before .before .before .before .before .before .before .before .before .before in
+leave-requires c κs = let st = c .before .before .before .before .before .before .before .before .before .before .before .before .before in
     let a = st .args in
-    let l = c .before .before .before .before .before .before .before .before .before .before .loop in
+    let l = c .before .before .before .before .before .before .before .before .before .before .before .loop in
     let m = c .before .before .before .loop2 in
-    let k : Kept ((a .n + 1) * a .l .row) (l .table) (c .before .before .before .before .before .before .before .visit .last .0) = rw (c .before .before .before .before .before .before .before .visit .ensures .1) (stay-kept (a .l) (a .w) (a .n) _ (a .p) (a .at) (l .k) (l .clocks) (l .table)) in
-    (passing-moving _ (passing-kept (m .inv .1 .1 .0) (passing-kept k (l .inv .1 .1 .0))) (m .inv .1 .0 (omega arith) .1), st .pre .1 .tos (m .i) (omega arith))
+    let e = c .before .before .before .before .before .before .before .visit .ensures in
+    let k : Kept ((a .n + 1) * a .l .row) (l .table) (c .before .before .before .before .before .before .before .visit .last .0) = rw (e .1) (stay-kept (a .l) (a .w) (a .n) _ (a .p) (a .at) (l .k) _ (l .table)) in
+    let x = ap (λ (s : Sent). s .clocks) (e .0) in
+    (passing-moving _ (passing-kept (m .inv .1 .1 .0) (passing-kept k (passing-kept (l .inv .1 .0) (st .pre .0)))) (rw x (ticked-within (a .l) _ (st .pre .0 .laid))), st .pre .1 .tos (m .i) (omega arith))
 
 element-copy-out-i : tie.Need-element-copy-out-i Inv-loop2 μ-loop2 Inv-loop μ-loop
-element-copy-out-i c = let h = c .before .before .before .before .before .before .before .before .before .before .before .before .before .before .pre .1 .few in
+element-copy-out-i c = let h = c .before .before .before .before .before .before .before .before .before .before .before .before .before .before .before .pre .1 .few in
     omega arith
 
 cast-i : tie.Need-cast-i Inv-loop2 μ-loop2 Inv-loop μ-loop
-cast-i c = let st = c .before .before .before .before .before .before .before .before .before .before .before .before .before .before .before in
+cast-i c = let st = c .before .before .before .before .before .before .before .before .before .before .before .before .before .before .before .before in
     let a = st .args in
     let m = c .before .before .before .before .before .before .loop2 in
-    let from = m .inv .1 .0 (omega arith) .0 in
+    let from = m .inv .1 .0 (omega arith) in
     let hop : Hop (a .t4) (a .count) (a .p) (m .i + 1) (getD (a .links .now) (m .i) 0) = rw from at (st .pre .1 .linked .nexts (m .i) (omega arith)) in
     let b = hop .below in
     let f = st .pre .1 .few in
     omega arith
 
 loop2-less : tie.Need-loop2-less Inv-loop2 μ-loop2 Inv-loop μ-loop
-loop2-less c = let st = c .before .before .before .before .before .before .before .before .before .before .before .before .before .before .before in
+loop2-less c = let st = c .before .before .before .before .before .before .before .before .before .before .before .before .before .before .before .before in
     let a = st .args in
     let m = c .before .before .before .before .before .before .loop2 in
-    let from = m .inv .1 .0 (omega arith) .0 in
+    let from = m .inv .1 .0 (omega arith) in
     let hop : Hop (a .t4) (a .count) (a .p) (m .i + 1) (getD (a .links .now) (m .i) 0) = rw from at (st .pre .1 .linked .nexts (m .i) (omega arith)) in
     let b = hop .below in
     let u = hop .above in
     omega arith
 
 loop2-again : tie.Need-loop2-again Inv-loop2 μ-loop2 Inv-loop μ-loop
-loop2-again c = let st = c .before .before .before .before .before .before .before .before .before .before .before .before .before .before .before in
+loop2-again c = let st = c .before .before .before .before .before .before .before .before .before .before .before .before .before .before .before .before in
     let a = st .args in
     let m = c .before .before .before .before .before .before .loop2 in
-    let from = m .inv .1 .0 (omega arith) .0 in
+    let from = m .inv .1 .0 (omega arith) in
     let hop : Hop (a .t4) (a .count) (a .p) (m .i + 1) (getD (a .links .now) (m .i) 0) = rw from at (st .pre .1 .linked .nexts (m .i) (omega arith)) in
     let s = c .before .before .before .before .before .before .before .before .before .before .visit .result in
     let u = c .before .before .leave .last .0 in
     let e = c .before .before .leave .ensures in
-    let k : Kept ((a .n + 1) * a .l .row) (m .table) u = rw e (turn-kept (a .l) (a .w) (a .n) (edgeIn (a .t4) (m .i)) 0 (s .clocks) _ (m .table)) in
-    (hop .below, ((λ h. (hop .lands h, m .inv .1 .0 (omega arith) .1)), (kept-trans (m .inv .1 .1 .0) k, hop-more (a .l) (a .w) (a .t4) (a .count) (a .n) (a .p) (s .clocks) _ (m .i) _ (m .table) u _ (omega arith) from hop e (m .inv .1 .1 .1))))
+    let k : Kept ((a .n + 1) * a .l .row) (m .table) u = rw (e .1) (turn-kept (a .l) (a .w) (a .n) (edgeIn (a .t4) (m .i)) 0 (s .clocks) _ (m .table)) in
+    (hop .below, (hop .lands, (kept-trans (m .inv .1 .1 .0) k, (hop-more _ (a .t4) (a .count) (a .p) (λ j z f. leave-no (a .l) (a .w) (a .n) (a .p) (s .clocks) _ (edgeIn (a .t4) j) z f) (m .i) _ (m .table) u _ (omega arith) hop (e .1 ∙ leave-is (a .l) (a .w) (a .n) (a .p) (s .clocks) _ (edgeIn (a .t4) (m .i)) (m .table) from) (m .inv .1 .1 .1 .0), hop-more _ (a .t4) (a .count) (a .p) (λ j z f. told-no (a .w) (a .tells .now) (a .n) (a .p) (s .clocks) _ (edgeIn (a .t4) j) z f) (m .i) _ (m .best) _ _ (omega arith) hop (e .0 ∙ told-is (a .w) (a .tells .now) (a .n) (a .p) (s .clocks) _ (edgeIn (a .t4) (m .i)) (m .best) from) (m .inv .1 .1 .1 .1)))))
 
-next-clocks-requires : tie.Need-next-clocks-requires Inv-loop2 μ-loop2 Inv-loop μ-loop
-next-clocks-requires c κs = let l = c .before .before .before .before .before .before .before .before .loop in
-    (c .before .before .before .before .before .before .before .before .before .before .pre .0 .laid, omega arith, l .inv .1 .1 .1 .0)
-
-add-k : tie.Need-add-k Inv-loop2 μ-loop2 Inv-loop μ-loop
-add-k c = let t = c .before .before .before .before .before .before .before .before .loop-test .taken in
-    let b = block-small (c .before .before .before .before .before .before .before .before .before .before .before .args .l) (c .before .before .before .before .before .before .before .before .before .before .before .pre .0 .laid) in
+add-occupied : tie.Need-add-occupied Inv-loop2 μ-loop2 Inv-loop μ-loop
+add-occupied c = let b = block-small (c .before .before .before .before .before .before .before .before .before .before .before .before .args .l) (c .before .before .before .before .before .before .before .before .before .before .before .before .pre .0 .laid) in
     omega arith
 
+occupied-requires : tie.Need-occupied-requires Inv-loop2 μ-loop2 Inv-loop μ-loop
+occupied-requires c κs = let st = c .before .before .before .before .before .before .before .before .before .before .before .before in
+    let a = st .args in
+    let l = c .before .before .before .before .before .before .before .before .before .before .loop in
+    let f = row-fits (a .l) (a .n) (st .pre .0 .low) in
+    let i = st .pre .0 .inside in
+    let x = st .pre .0 .apart in
+    let p = l .inv .1 .0 .long in
+    let q = stay-kept (a .l) (a .w) (a .n) _ (a .p) (a .at) (l .k) _ (l .table) .long in
+    let q′ = ap length (c .before .before .before .before .before .before .visit .ensures .1) ∙ q in
+    let r = c .before .before .loop2 .inv .1 .1 .0 .long in
+    (omega arith, omega arith)
+
 loop-less : tie.Need-loop-less Inv-loop2 μ-loop2 Inv-loop μ-loop
-loop-less c = omega arith
+loop-less c = let o = c .occupied .ensures .above in
+    omega arith
 
 loop-again : tie.Need-loop-again Inv-loop2 μ-loop2 Inv-loop μ-loop
-loop-again c = let st = c .before .before .before .before .before .before .before .before .before .before .before in
+loop-again c = let st = c .before .before .before .before .before .before .before .before .before .before .before .before .before in
     let a = st .args in
-    let l = c .before .before .before .before .before .before .before .before .before .loop in
-    let m = c .before .before .loop2 in
-    let s = c .before .before .before .before .before .before .visit .result in
-    let q : toZ w64 (ofZ w64 (s .worth)) ≡ s .worth = toZ-ofZ {w = w64} {z = s .worth} (record { sfits = c .before .before .before .struct-told .given .1 .1 .0 .1 }) in
+    let l = c .before .before .before .before .before .before .before .before .before .before .before .loop in
+    let m = c .before .before .before .loop2 in
+    let s = c .before .before .before .before .before .before .before .visit .result in
+    let e = c .before .before .before .before .before .before .before .visit .ensures in
+    let o = c .occupied .ensures in
+    let here = c .before .before .before .before .before .before .before .before .before .clocks-to .ensures in
+    let g = toZ w64 (ofZ w64 (a .gain)) in
+    let some = l .inv .1 .1 .1 .1 .0 (omega arith) in
+    let q : toZ w64 (ofZ w64 (s .worth)) ≡ s .worth = toZ-ofZ {w = w64} {z = s .worth} (record { sfits = c .before .before .before .before .struct-told .given .1 .0 .1 }) in
     let hop = st .pre .1 .linked .firsts (a .p) (let h = st .pre .0 .place in let f = st .pre .0 .laid .few in omega arith) in
-    let v = rest-end _ (m .i) _ (m .table) _ (omega arith) (m .inv .1 .1 .1) in
-    let e : m .table ≡ visitOf (a .l) (a .w) (a .t4) (a .count) (toZ w64 (ofZ w64 (a .gain))) (a .n) (a .p) (a .at) (l .k) (l .clocks) (l .table) = (rw q at v) ∙ sent-rest (a .l) (a .w) _ (a .n) (a .p) (a .at) (l .k) (l .clocks) (l .table) (a .t4) (a .count) _ s _ hop (c .before .before .before .before .before .before .visit .ensures .0) (c .before .before .before .before .before .before .visit .ensures .1) in
-    let e′ : m .table ≡ visitOf (a .l) (a .w) (a .t4) (a .count) (toZ w64 (ofZ w64 (a .gain))) (a .n) (a .p) (a .at) (l .k) (clocksAt (a .l .radices) (l .k)) (l .table) = rw (l .inv .1 .1 .1 .0) at e in
-    let k : Kept ((a .n + 1) * a .l .row) (l .table) (m .table) = rw e (visit-kept (a .l) (a .w) (a .n) (a .t4) (a .count) _ (a .p) (a .at) (l .k) (l .clocks) (l .table)) in
-    (omega arith, (k .long ∙ l .inv .1 .0, (passing-kept k (l .inv .1 .1 .0), (c .next-clocks .ensures, each-more (λ k. visitOf (a .l) (a .w) (a .t4) (a .count) (toZ w64 (ofZ w64 (a .gain))) (a .n) (a .p) (a .at) k (clocksAt (a .l .radices) k)) (l .k) (a .table .now) (l .table) (m .table) (l .inv .1 .1 .1 .1) e′))))
+    let v = (rw q at (rest-end _ (m .i) _ (m .table) _ (omega arith) (m .inv .1 .1 .1 .0))) ∙ hop-all _ (a .t4) (a .count) (a .p) (λ j z f. leave-no (a .l) (a .w) (a .n) (a .p) (s .clocks) (s .worth) (edgeIn (a .t4) j) z f) _ _ hop ∙ sent-visit (a .l) (a .w) _ (a .n) (a .p) (a .at) (l .k) _ (l .table) (a .t4) (a .count) s _ some (e .0) (e .1) in
+    let u = (rw q at (rest-end _ (m .i) _ (m .best) _ (omega arith) (m .inv .1 .1 .1 .1))) ∙ hop-all _ (a .t4) (a .count) (a .p) (λ j z f. told-no (a .w) (a .tells .now) (a .n) (a .p) (s .clocks) (s .worth) (edgeIn (a .t4) j) z f) _ _ hop ∙ told-visit (a .l) (a .w) (a .t4) (a .count) (a .tells .now) _ (a .n) (a .p) (a .at) (l .table) (l .k) _ s (l .best) some (e .0) in
+    let v′ : m .table ≡ visitOf (a .l) (a .w) (a .t4) (a .count) g (a .n) (a .p) (a .at) (l .k) (clocksAt (a .l .radices) (l .k)) (l .table) = rw here at v in
+    let u′ : m .best ≡ toldVisit (a .l) (a .w) (a .t4) (a .count) (a .tells .now) g (a .n) (a .p) (a .at) (l .k) (clocksAt (a .l .radices) (l .k)) (a .table .now) (l .best) = (rw here at u) ∙ visit-same (a .l) (a .w) (a .t4) (a .count) (a .tells .now) (a .n) (a .table .now) (l .table) g (a .p) (a .at) (l .k) _ (l .best) (l .inv .1 .0 .same (a .at + l .k) (let x = st .pre .0 .apart in omega arith)) in
+    let kept : Kept ((a .n + 1) * a .l .row) (a .table .now) (m .table) = kept-trans (l .inv .1 .0) (rw v′ (visit-kept (a .l) (a .w) (a .n) (a .t4) (a .count) g (a .p) (a .at) (l .k) (clocksAt (a .l .radices) (l .k)) (l .table))) in
+    let T : m .table ≡ visitsOf (a .l) (a .w) (a .t4) (a .count) g (a .n) (a .p) (a .at) (l .k + 1) (a .table .now) = each-more (λ k. visitOf (a .l) (a .w) (a .t4) (a .count) g (a .n) (a .p) (a .at) k (clocksAt (a .l .radices) k)) (l .k) (a .table .now) (l .table) (m .table) (l .inv .1 .1 .1 .1 .1 .0) v′ in
+    let R : m .best ≡ toldVisits (a .l) (a .w) (a .t4) (a .count) (a .tells .now) g (a .n) (a .p) (a .at) (l .k + 1) (a .table .now) (a .r) = each-more (λ k. toldVisit (a .l) (a .w) (a .t4) (a .count) (a .tells .now) g (a .n) (a .p) (a .at) k (clocksAt (a .l .radices) k) (a .table .now)) (l .k) (a .r) (l .best) (m .best) (l .inv .1 .1 .1 .1 .1 .1) u′ in
+    let up = o .above in
+    (o .below, (kept, (omega arith, (here, (o .holds, (T ∙ visits-skip (a .l) (a .w) (a .t4) (a .count) g (a .n) (a .p) (a .at) (l .k + 1) _ (a .table .now) (o .above) (λ j x y. rw T at (o .skips j x y)), R ∙ told-skip (a .l) (a .w) (a .t4) (a .count) (a .tells .now) g (a .n) (a .p) (a .at) (a .table .now) (l .k + 1) _ (a .r) (o .above) (λ j x y. rw (kept .same (a .at + j) (let z = o .below in let f = st .pre .0 .apart in omega arith)) at (o .skips j x y))))))))
 
 same-length : tie.Need-same-length Inv-loop2 μ-loop2 Inv-loop μ-loop
 same-length c = search needs
@@ -155,10 +188,14 @@ returns : tie.Need-returns Inv-loop2 μ-loop2 Inv-loop μ-loop
 returns c = let l = c .before .loop in
     let a = c .before .before .before .args in
     let e : l .k ≡ a .l .block = omega arith in
-    let q = toZ-ofZ (c .before .before .before .fits .gain) in
-    l .inv .1 .1 .1 .1
-    ∙ ap (λ (g : ℤ). visitsOf (a .l) (a .w) (a .t4) (a .count) g (a .n) (a .p) (a .at) (l .k) (a .table .now)) q
-    ∙ ap (λ (m : ℕ). visitsOf (a .l) (a .w) (a .t4) (a .count) (a .gain) (a .n) (a .p) (a .at) m (a .table .now)) e
+    let q = toZ-ofZ (c .before .before .before .fits .gain) in (
+      l .inv .1 .1 .1 .1 .1 .1
+          ∙ ap (λ (g : ℤ). toldVisits (a .l) (a .w) (a .t4) (a .count) (a .tells .now) g (a .n) (a .p) (a .at) (l .k) (a .table .now) (a .r)) q
+          ∙ ap (λ (m : ℕ). toldVisits (a .l) (a .w) (a .t4) (a .count) (a .tells .now) (a .gain) (a .n) (a .p) (a .at) m (a .table .now) (a .r)) e,
+      l .inv .1 .1 .1 .1 .1 .0
+          ∙ ap (λ (g : ℤ). visitsOf (a .l) (a .w) (a .t4) (a .count) g (a .n) (a .p) (a .at) (l .k) (a .table .now)) q
+          ∙ ap (λ (m : ℕ). visitsOf (a .l) (a .w) (a .t4) (a .count) (a .gain) (a .n) (a .p) (a .at) m (a .table .now)) e,
+    )
 
 pub visits-spec : {M : Type 1} → statement M
 visits-spec =
@@ -172,6 +209,7 @@ visits-spec =
     element-copy-out-first
     cast-first
     loop-holds
+    clocks-to-requires
     visit-requires
     loop2-holds
     mul-e
@@ -181,8 +219,8 @@ visits-spec =
     cast-i
     loop2-less
     loop2-again
-    next-clocks-requires
-    add-k
+    add-occupied
+    occupied-requires
     loop-less
     loop-again
     same-length
