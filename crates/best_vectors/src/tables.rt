@@ -1,8 +1,8 @@
 // The tables that the best of a record leaves are, cell by cell, those that opening and feeding the record leaves.
 use super::patterns::two_ticks;
 use best::best;
-use feed::feed;
-use feed::open;
+use lent_state::feed_through;
+use lent_state::open_through;
 use monitor::State;
 use pattern::Pattern;
 use vector_parts::patterns::document;
@@ -14,7 +14,7 @@ fn opened(p: Pattern, first: &mut [i64], second: &mut [i64]) -> State {
         ticks: 0,
         last: [0, 0, 0, 0, 0, 0, 0, 0],
     };
-    let after = open(zeros, p, first, second);
+    let after = open_through(zeros, p, first, second);
     after.state
 }
 
@@ -30,7 +30,7 @@ fn fed(
     let mut scores: [i64; 65535] = [0; 65535];
     let mut lengths: [u32; 65535] = [0; 65535];
     let values: [i32; 1] = [value];
-    let after = feed(
+    let after = feed_through(
         s,
         p,
         first,

@@ -1,7 +1,7 @@
 // A chunk of a record fed to the monitor, and the lines of its ends put into a buffer.
 use best::Search;
 use best::choose_all;
-use feed::feed;
+use lent_state::feed_through;
 use pattern::Pattern;
 use watch_text::put_reports;
 ghost use mathlib.Core.Path.{_≡_};
@@ -52,7 +52,7 @@ pub fn feed_rows(
     let mut lengths: [u32; 64] = [0; 64];
     let state = s.state;
     let f = s.choice;
-    let after = feed(
+    let after = feed_through(
         state,
         p,
         first,

@@ -1,7 +1,7 @@
 // What `watch` prints, step by step: each step puts some lines into a buffer, and the next goes on from there.
 use best::Choice;
 use best::Search;
-use feed::open;
+use lent_state::open_through;
 use monitor::Answer;
 use monitor::State;
 use pattern::Pattern;
@@ -286,7 +286,7 @@ fn opened(p: Pattern, first: &mut [i64], second: &mut [i64]) -> Watch
     ensures { λ _. ⌜ now (second .exit) ≡ openSecond p (now (first .entry)) (now (second .entry)) ⌝ }
 {
     let none = no_ticks();
-    let after = open(none, p, first, second);
+    let after = open_through(none, p, first, second);
     let state = after.state;
     let answer = after.answer;
     match answer {

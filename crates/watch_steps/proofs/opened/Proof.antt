@@ -12,8 +12,8 @@ use Rattle.watch_steps.proofs.opened.Tie as tie
 no-ticks-requires : tie.Need-no-ticks-requires
 no-ticks-requires c κs = search needs
 
-open-requires : tie.Need-open-requires
-open-requires c κs = search needs
+open-through-requires : tie.Need-open-through-requires
+open-through-requires c κs = search needs
 
 enum-told : tie.Need-enum-told
 enum-told c = search needs
@@ -36,7 +36,7 @@ same-length-2 c = search needs
 returns : tie.Need-returns
 returns c =
     let a = c .before .before .before .before .before .before .before .before .before .before .args in
-    let o = rw (c .before .before .before .before .before .before .before .before .before .no-ticks .ensures) at (c .before .before .before .before .before .before .«open» .ensures) in
+    let o = rw (c .before .before .before .before .before .before .before .before .before .no-ticks .ensures) at (c .before .before .before .before .before .before .open-through .ensures) in
     let e : openRefusal (a .p) (length (a .first .now)) (length (a .second .now)) ≡ none = done _ (sym (c .before .enum-told .given .1) ∙ ap (λ (x : After). x .answer) (o .0)) in
     (c .start-at .ensures ∙ rw (ap (λ (x : After). x .state) (o .0), e), (o .1 .0, o .1 .1))
 
@@ -49,7 +49,7 @@ same-length-4 c = search needs
 returns-2 : tie.Need-returns-2
 returns-2 c =
     let a = c .before .before .before .before .before .before .before .before .before .before .before .args in
-    let o = rw (c .before .before .before .before .before .before .before .before .before .before .no-ticks .ensures) at (c .before .before .before .before .before .before .before .«open» .ensures) in
+    let o = rw (c .before .before .before .before .before .before .before .before .before .before .no-ticks .ensures) at (c .before .before .before .before .before .before .before .open-through .ensures) in
     let e : openRefusal (a .p) (length (a .first .now)) (length (a .second .now)) ≡ some (c .before .before .answer .given .0 .0) = refused-for _ _ (sym (c .before .before .answer .given .1) ∙ ap (λ (x : After). x .answer) (o .0)) in
     (c .start-at2 .ensures ∙ rw (ap (λ (x : After). x .state) (o .0), e), (o .1 .0, o .1 .1))
 
@@ -58,7 +58,7 @@ opened-spec =
     tie.close
     (tie.spec
     no-ticks-requires
-    open-requires
+    open-through-requires
     enum-told
     start-at-requires
     enum-known-answer
