@@ -396,7 +396,7 @@ fn next_line<'a>(r: Reader<'a>, stage: Stage, p: Pattern) -> State
     requires { ⌜ r .at ≤ length (now (r .text)) ⌝ }
     ensures { λ s. ⌜ s ≡ turned (now (r .entry .text)) stage (r .entry .at) p ⌝ }
 {
-    turn(r.text, r.at, stage, p)
+    turn(r.text, text_reader::standing(r), stage, p)
 }
 
 fn refused(cause: Refusal) -> PatternRead

@@ -29,7 +29,7 @@ use Rattle.record_read.specs.declared.Checked.the-variants.{Sound, Refus
 use Rattle.record_read.specs.declared.LineRead.{LineRead}
 use Rattle.record_read.specs.declared.Walk.{Walk}
 use Rattle.record_read.specs.Line.{limit, gatheredValues, lineIn, lineAt}
-use Rattle.record_read.specs.Check.{checkedOf, lineSound, turned, turnOf, finishOf}
+use Rattle.record_read.specs.Check.{checkedOf, lineSound, startWalk, turned, finishOf}
 
 -- ---- a line leaves less than there was
 
@@ -41,10 +41,9 @@ line-rest t at p r e = rest-at t at ((pieceLine ◂ "\n") .write p) r (ended-fai
 
 -- ---- a turn, from what the functions that it calls answer
 
-pub turn-is : (n : ℕ) (t : Bytes) (s : Walk) (l : LineRead) (f : Bool) (k : ℕ) → l ≡ lineAt t (s .at) → f ≡ lineSound n l → k ≡ min limit (s .ticks + l .duration)
-    → record { at = l .next; form = s .form && l .found; sound = s .sound && f; ticks = k } ≡ turnOf n t s
-unfolding turnOf
-turn-is n t s l f k el ef ek = (λ i. record { at = l .next; form = s .form && l .found; sound = s .sound && ef i; ticks = ek i }) ∙ ap (turned n s) el
+pub turn-is : (n : ℕ) (s : Walk) (l : LineRead) (f : Bool) (k : ℕ) → f ≡ lineSound n l → k ≡ min limit (s .ticks + l .duration)
+    → record { form = s .form && l .found; sound = s .sound && f; ticks = k } ≡ turned n s l
+turn-is n s l f k ef ek = λ i. record { form = s .form && l .found; sound = s .sound && ef i; ticks = ek i }
 
 -- ---- the rules of a record, line by line
 
@@ -117,25 +116,25 @@ sound-is n rs few =
 -- ---- where the walk stands
 
 -- the state after some lines
-unfoldable pub walkedOver : (channels : ℕ) → List RawPiece → (at : ℕ) → Walk
-walkedOver n rs at = record { at = at; form = true; sound = all (pieceSound n) rs; ticks = min limit (total (durationsOf rs)) }
+unfoldable pub walkedOver : (channels : ℕ) → List RawPiece → Walk
+walkedOver n rs = record { form = true; sound = all (pieceSound n) rs; ticks = min limit (total (durationsOf rs)) }
 
 abbrev pub after : List RawPiece → Reading (List RawPiece) → Reading (List RawPiece)
 after rs (got l r) = got (rs ++ l) r
 after rs broken = broken
 
--- the state says what is left of the text, or that it has not the form
-pub data Stands (n : ℕ) (t : Bytes) (s : Walk) : Type 0 where
-  reading : (rs : List RawPiece) → s ≡ walkedOver n rs (s .at) → readRecord t ≡ whole (after rs (recordForm .read (drop (s .at) t))) → Stands n t s
-  failed : s .form ≡ false → readRecord t ≡ none → Stands n t s
+-- at a position, the state says what is left of the text, or that it has not the form
+pub data Stands (n : ℕ) (t : Bytes) (at : ℕ) (s : Walk) : Type 0 where
+  reading : (rs : List RawPiece) → s ≡ walkedOver n rs → readRecord t ≡ whole (after rs (recordForm .read (drop at t))) → Stands n t at s
+  failed : s .form ≡ false → readRecord t ≡ none → Stands n t at s
 
 -- a turn goes on to a further place
-pub record Onward (n : ℕ) (t : Bytes) (at : ℕ) (s : Walk) : Type 0 where
-  pub stands : Stands n t s
-  pub within : s .at ≤ length t
-  pub further : at < s .at
+pub record Onward (n : ℕ) (t : Bytes) (at : ℕ) (l : LineRead) (s : Walk) : Type 0 where
+  pub stands : Stands n t (l .next) s
+  pub within : l .next ≤ length t
+  pub further : at < l .next
 
-pub start-stands : (n : ℕ) (t : Bytes) → Stands n t (record { at = 0; form = true; sound = true; ticks = 0 })
+pub start-stands : (n : ℕ) (t : Bytes) → Stands n t 0 startWalk
 unfolding walkedOver readRecord durationsOf total
 start-stands n t = reading [] refl (go (recordForm .read t))
   where
@@ -150,11 +149,10 @@ unfolding durationsOf total
 total-snoc rs p = rw (map-append (λ (r : RawPiece). r .duration) rs (p ∷ []), total-append (durationsOf rs) (p .duration ∷ [])) (omega arith)
 
 -- one line more
-walked-more : (n : ℕ) → n ≤ 255 → (t : Bytes) (s : Walk) (rs : List RawPiece) (p : RawPiece) (r : Bytes) → s ≡ walkedOver n rs (s .at)
-    → turned n s (lineIn t (got p r)) ≡ walkedOver n (rs ++ (p ∷ [])) (endOf t r)
+walked-more : (n : ℕ) → n ≤ 255 → (t : Bytes) (s : Walk) (rs : List RawPiece) (p : RawPiece) (r : Bytes) → s ≡ walkedOver n rs
+    → turned n s (lineIn t (got p r)) ≡ walkedOver n (rs ++ (p ∷ []))
 unfolding walkedOver
 walked-more n few t s rs p r q = λ i. record {
-  at = endOf t r;
   form = q i .form && true;
   sound = (ap₂ _&&_ (ap (λ (x : Walk). x .sound) q) (line-sound-is n few t p r) ∙ sym (all-snoc (pieceSound n) rs p)) i;
   ticks = ticks i;
@@ -177,22 +175,22 @@ and-false : (b : Bool) → b && false ≡ false
 and-false true = refl
 and-false false = refl
 
-pub turn-on : (n : ℕ) (t : Bytes) (s : Walk) → n ≤ 255 → s .at < length t → Stands n t s → Onward n t (s .at) (turnOf n t s)
-unfolding turnOf lineAt recordForm
-turn-on n t s few h st = go ((pieceLine ◂ "\n") .read (drop (s .at) t)) refl st
+pub turn-on : (n : ℕ) (t : Bytes) (at : ℕ) (s : Walk) → n ≤ 255 → at < length t → Stands n t at s → Onward n t at (lineAt t at) (turned n s (lineAt t at))
+unfolding lineAt recordForm
+turn-on n t at s few h st = go ((pieceLine ◂ "\n") .read (drop at t)) refl st
   where
-    go : (x : Reading RawPiece) → (pieceLine ◂ "\n") .read (drop (s .at) t) ≡ x → Stands n t s → Onward n t (s .at) (turned n s (lineIn t x))
+    go : (x : Reading RawPiece) → (pieceLine ◂ "\n") .read (drop at t) ≡ x → Stands n t at s → Onward n t at (lineIn t x) (turned n s (lineIn t x))
     go (got p r) e (reading rs q k) = record {
       stands = reading (rs ++ (p ∷ [])) (walked-more n few t s rs p r q)
-          (k ∙ ap (λ x. whole (after rs x)) (many-more (pieceLine ◂ "\n") line-shorter (drop (s .at) t) p r e)
+          (k ∙ ap (λ x. whole (after rs x)) (many-more (pieceLine ◂ "\n") line-shorter (drop at t) p r e)
           ∙ ap whole (after-more rs p (recordForm .read r))
-          ∙ ap (λ (b : Bytes). whole (after (rs ++ (p ∷ [])) (recordForm .read b))) (sym (line-rest t (s .at) p r e)));
+          ∙ ap (λ (b : Bytes). whole (after (rs ++ (p ∷ [])) (recordForm .read b))) (sym (line-rest t at p r e)));
       within = omega arith;
-      further = omega (arith, line-shorter (drop (s .at) t) p r e, length-drop (s .at) t);
+      further = omega (arith, line-shorter (drop at t) p r e, length-drop at t);
     }
-    go (got p r) e (failed f k) = record { stands = failed (rw f refl) k; within = omega arith; further = omega (arith, line-shorter (drop (s .at) t) p r e, length-drop (s .at) t) }
+    go (got p r) e (failed f k) = record { stands = failed (rw f refl) k; within = omega arith; further = omega (arith, line-shorter (drop at t) p r e, length-drop at t) }
     go broken e (reading rs q k) = record {
-      stands = failed (and-false (s .form)) (k ∙ ap (λ x. whole (after rs x)) (many-end (pieceLine ◂ "\n") line-shorter (drop (s .at) t) e) ∙ whole-none (rs ++ []) (drop (s .at) t) (omega (arith, length-drop (s .at) t)));
+      stands = failed (and-false (s .form)) (k ∙ ap (λ x. whole (after rs x)) (many-end (pieceLine ◂ "\n") line-shorter (drop at t) e) ∙ whole-none (rs ++ []) (drop at t) (omega (arith, length-drop at t)));
       within = omega arith;
       further = h;
     }
@@ -200,14 +198,14 @@ turn-on n t s few h st = go ((pieceLine ◂ "\n") .read (drop (s .at) t)) refl s
 
 -- ---- at the end
 
-pub finish-on : (n : ℕ) (t : Bytes) (s : Walk) → length t ≤ 16_384 → length t ≤ s .at → Stands n t s → finishOf s ≡ checkedOf (piecesRefusal n (readRecord t))
+pub finish-on : (n : ℕ) (t : Bytes) (at : ℕ) (s : Walk) → length t ≤ 16_384 → length t ≤ at → Stands n t at s → finishOf s ≡ checkedOf (piecesRefusal n (readRecord t))
 unfolding finishOf recordForm many readMany walkedOver
-finish-on n t s short h (reading rs q k) =
-    let e : readRecord t ≡ some rs = k ∙ ap (λ (b : Bytes). whole (after rs (recordForm .read b))) (drop-of-length-le t {i = s .at} h) ∙ ap some (append-nil rs) in
+finish-on n t at s short h (reading rs q k) =
+    let e : readRecord t ≡ some rs = k ∙ ap (λ (b : Bytes). whole (after rs (recordForm .read b))) (drop-of-length-le t {i = at} h) ∙ ap some (append-nil rs) in
     let few : length rs ≤ 4_096 = omega (arith, render-long rs, ap length (records t rs .0 e)) in
     rw (q, e, sound-is n rs few) (go (all (pieceSound n) rs && leb (min limit (total (durationsOf rs))) 2_147_483_647))
   where
     go : (b : Bool) → cond b Sound (Refused BrokenRecord) ≡ checkedOf (cond b none (some BrokenRecord))
     go true = refl
     go false = refl
-finish-on n t s short h (failed f k) = rw (f, k) refl
+finish-on n t at s short h (failed f k) = rw (f, k) refl

@@ -1,16 +1,15 @@
 -- What `check` answers, and its walk from line to line.
 use Prim.Native.Nat.{ℕ, _+_, min}
 use mathlib.Core.Option.{Option, none, some}
-use mathlib.Core.Bool.{Bool, cond, _&&_}
+use mathlib.Core.Bool.{Bool, true, cond, _&&_}
 use lib.Dec.{eqb, leb}
 use Rattle.pattern.specs.declared.Refusal.{Refusal}
 use Rattle.pattern.specs.declared.Refusal.the-variants.{BrokenForm, BrokenRecord}
-use Rattle.pattern_text.specs.Bytes.{Bytes}
 use Rattle.record_read.specs.declared.Checked.{Checked}
 use Rattle.record_read.specs.declared.Checked.the-variants.{Sound, Refused}
 use Rattle.record_read.specs.declared.LineRead.{LineRead}
 use Rattle.record_read.specs.declared.Walk.{Walk}
-use Rattle.record_read.specs.Line.{limit, lineAt}
+use Rattle.record_read.specs.Line.{limit}
 
 -- the answer by its cause; `numberOf` gives document 01's number of each
 abbrev pub checkedOf : Option Refusal → Checked
@@ -23,12 +22,13 @@ checkedOf (some r) = Refused r
 unfoldable pub lineSound : (channels : ℕ) → LineRead → Bool
 lineSound n l = leb 1 (l .duration) && l .values .inrange && eqb (l .values .count) n
 
-abbrev pub turned : (channels : ℕ) → Walk → LineRead → Walk
-turned n s l = record { at = l .next; form = s .form && l .found; sound = s .sound && lineSound n l; ticks = min limit (s .ticks + l .duration) }
+-- before the first line
+abbrev pub startWalk : Walk
+startWalk = record { form = true; sound = true; ticks = 0 }
 
 -- one line more
-unfoldable pub turnOf : (channels : ℕ) → Bytes → Walk → Walk
-turnOf n t s = turned n s (lineAt t (s .at))
+abbrev pub turned : (channels : ℕ) → Walk → LineRead → Walk
+turned n s l = record { form = s .form && l .found; sound = s .sound && lineSound n l; ticks = min limit (s .ticks + l .duration) }
 
 -- at the text's end: 2, then 8
 unfoldable pub finishOf : Walk → Checked

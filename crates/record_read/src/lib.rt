@@ -2,9 +2,9 @@
 ghost use mathlib.Core.Path.{_≡_};
 ghost use Prim.Native.Nat.{_+_, _≤_, min};
 ghost use lib.ListN.{length};
-ghost use Rattle.record_text.specs.Text.{recordRefusal};
+ghost use Rattle.record_text.specs.Text.{readRecord, piecesRefusal, recordRefusal};
 ghost use Rattle.record_read.specs.Line.{limit, noValues, addValue, valueAt, valueTurn, valuesAt, lineAt, pieceAt};
-ghost use Rattle.record_read.specs.Check.{checkedOf, lineSound, turnOf, finishOf};
+ghost use Rattle.record_read.specs.Check.{checkedOf, lineSound, startWalk, turned, finishOf};
 use pattern::Refusal;
 use text_reader::Reader;
 use text_scan::Found;
@@ -46,10 +46,8 @@ pub struct LineRead {
     pub next: usize,
 }
 
-// The walk: where the next line begins; whether the lines so far have the form, and keep the rules; their ticks, held at
-// 2,147,483,648.
+// The lines so far: whether they have the form, and keep the rules; their ticks, held at 2,147,483,648.
 pub struct Walk {
-    pub at: usize,
     pub form: bool,
     pub sound: bool,
     pub ticks: u32,
@@ -182,7 +180,7 @@ fn next_line<'a>(r: Reader<'a>) -> LineRead
     requires { ⌜ r .at ≤ length (now (r .text)) ⌝ }
     ensures { λ l. ⌜ l ≡ lineAt (now (r .entry .text)) (r .entry .at) ⌝ }
 {
-    line_at(r.text, r.at)
+    line_at(r.text, text_reader::standing(r))
 }
 
 // The same for callers that have the text and a number.
@@ -229,20 +227,42 @@ fn line_sound(line: LineRead, channels: u8) -> bool
     (1 <= line.duration) & values.inrange & (values.count == width)
 }
 
-// One line more. A line without the form ends the walk.
-fn turn(text: &[u8], s: Walk, channels: u8) -> Walk
-    requires { ⌜ s .at ≤ length (now text) ⌝ }
-    ensures { λ r. ⌜ r ≡ turnOf channels (now (text .entry)) s ⌝ }
+// One line more.
+fn turn(s: Walk, line: LineRead, channels: u8) -> Walk
+    ensures { λ r. ⌜ r ≡ turned channels s line ⌝ }
 {
-    let line = line_from(text, s.at);
     let fine = line_sound(line, channels);
     let ticks = held_sum(s.ticks, line.duration);
     Walk {
-        at: line.next,
         form: s.form & line.found,
         sound: s.sound & fine,
         ticks,
     }
+}
+
+fn start() -> Walk
+    ensures { λ r. ⌜ r ≡ startWalk ⌝ }
+{
+    Walk {
+        form: true,
+        sound: true,
+        ticks: 0,
+    }
+}
+
+// One reader walks the text from line to line, to its end. A line without the form ends the walk.
+fn check_lines(text: &[u8], channels: u8) -> Walk
+    requires { ⌜ length (now text) ≤ 16384 ⌝ }
+    ensures { λ s. ⌜ finishOf s ≡ checkedOf (piecesRefusal channels (readRecord (now (text .entry)))) ⌝ }
+{
+    let mut r = text_reader::reader_at(text, 0);
+    let mut s = start();
+    while text_reader::unread(r) {
+        let line = next_line(r);
+        s = turn(s, line, channels);
+        r = text_reader::moved(r, line.next);
+    }
+    s
 }
 
 // At the text's end: 2, then 8. So short a text has fewer than 4,096 pieces.
@@ -266,14 +286,5 @@ pub fn check(text: &[u8], channels: u8) -> Checked
     if 16_384 < text.len() {
         return Checked::Refused(Refusal::TextTooLong);
     }
-    let mut s = Walk {
-        at: 0,
-        form: true,
-        sound: true,
-        ticks: 0,
-    };
-    while s.at < text.len() {
-        s = turn(text, s, channels);
-    }
-    finish(s)
+    finish(check_lines(text, channels))
 }

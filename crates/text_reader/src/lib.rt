@@ -30,6 +30,13 @@ pub fn unread<'a>(r: Reader<'a>) -> bool
     before_end(r.text, r.at)
 }
 
+// Where a reader stands.
+pub fn standing<'a>(r: Reader<'a>) -> usize
+    ensures { λ n. ⌜ n ≡ r .entry .at ⌝ }
+{
+    r.at
+}
+
 // The reader at another offset.
 pub fn moved<'a>(r: Reader<'a>, at: usize) -> Reader<'a>
     ensures { λ q. ⌜ (q .text ≡ r .entry .text) × (q .at ≡ at) ⌝ }

@@ -4,9 +4,6 @@ use borrow.Author.Needs.{needs}
 use Rattle.record_read.proofs.turn.Statement.{statement}
 use Rattle.record_read.proofs.turn.Tie as tie
 
-line-from-requires : tie.Need-line-from-requires
-line-from-requires c κs = search needs
-
 line-sound-requires : tie.Need-line-sound-requires
 line-sound-requires c κs = search needs
 
@@ -14,7 +11,7 @@ held-sum-requires : tie.Need-held-sum-requires
 held-sum-requires c κs = search needs
 
 returns : tie.Need-returns
-returns c = turn-is _ _ (c .before .before .before .before .before .before .before .args .s) (c .before .before .before .before .before .line-from .result) _ _ (c .before .before .before .before .before .line-from .ensures) (c .before .before .before .before .line-sound .ensures) (c .before .before .before .held-sum .ensures)
+returns c = turn-is _ (c .before .before .before .before .before .args .s) (c .before .before .before .before .before .args .line) _ _ (c .before .before .before .before .line-sound .ensures) (c .before .before .before .held-sum .ensures)
 
 pub turn-spec : {M : Type 1} → statement M
-turn-spec = tie.close (tie.spec line-from-requires line-sound-requires held-sum-requires returns)
+turn-spec = tie.close (tie.spec line-sound-requires held-sum-requires returns)
