@@ -1,0 +1,10 @@
+-- `start` meets its contract.
+use mathlib.Core.Path.{refl}
+use Rattle.record_read.proofs.start.Statement.{statement}
+use Rattle.record_read.proofs.start.Tie as tie
+
+returns : tie.Need-returns
+returns c = refl
+
+pub start-spec : {M : Type 1} → statement M
+start-spec = tie.close (tie.spec returns)
