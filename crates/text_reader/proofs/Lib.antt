@@ -1,2 +1,3 @@
--- Laws: a reader taken apart.
+-- Laws: a reader taken apart; calls of the functions over a reader.
 pub mod Apart
+pub mod Calls
