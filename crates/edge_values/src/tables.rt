@@ -2,8 +2,8 @@
 use super::lines::judge;
 use best::Found;
 use best::best;
-use feed::feed;
-use feed::open;
+use lent_state::feed_through;
+use lent_state::open_through;
 use monitor::Answer;
 use monitor::State;
 use pattern::Pattern;
@@ -26,7 +26,7 @@ fn zeros() -> State {
 }
 
 fn open_answer(p: Pattern, first: &mut [i64], second: &mut [i64]) -> u64 {
-    let after = open(zeros(), p, first, second);
+    let after = open_through(zeros(), p, first, second);
     let a = after.answer;
     answer(a)
 }
@@ -35,7 +35,7 @@ fn feed_answer(p: Pattern, first: &mut [i64], second: &mut [i64]) -> u64 {
     let mut scores: [i64; 1] = [0];
     let mut lengths: [u32; 1] = [0];
     let values: [i32; 1] = [10];
-    let after = feed(
+    let after = feed_through(
         zeros(),
         p,
         first,
