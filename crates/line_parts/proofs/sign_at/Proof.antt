@@ -1,6 +1,12 @@
 -- `sign_at` meets its contract: each word in turn.
 use mathlib.Core.Path.{sym, _∙_}
-use Rattle.line_parts.proofs.Words.{sign-1, sign-2, sign-3, sign-4, sign-none}
+use mathlib.Core.List.{[], _∷_}
+use Rattle.pattern.specs.declared.Sign.the-variants.{Less, AtMost, More, AtLeast}
+use Rattle.pattern_text.specs.Form.{oneOf}
+use Rattle.pattern_text.specs.Line.{signWord, sign}
+use Rattle.line_parts.specs.declared.SignRead.the-variants.{Value, Broken}
+use Rattle.line_parts.specs.Parts.{signAt}
+use Rattle.line_parts.proofs.Words.{there, nowhere}
 use borrow.Author.Needs.{needs}
 use Rattle.line_parts.proofs.sign_at.Statement.{statement}
 use Rattle.line_parts.proofs.sign_at.Tie as tie
@@ -15,8 +21,10 @@ enum-known-next : tie.Need-enum-known-next
 enum-known-next c = search needs
 
 returns : tie.Need-returns
+unfolding signAt sign oneOf signWord
 returns c =
-    sign-1 _ _ _
+    there signWord Value Broken _ _ [] Less (AtMost ∷ More ∷ AtLeast ∷ []) _
+    tt
     (sym (c .before .next .given .1) ∙ c .before .before .before .word-at .ensures)
 
 enum-told : tie.Need-enum-told
@@ -32,9 +40,10 @@ enum-known-next-2 : tie.Need-enum-known-next-2
 enum-known-next-2 c = search needs
 
 returns-2 : tie.Need-returns-2
+unfolding signAt sign oneOf signWord
 returns-2 c =
-    sign-2 _ _ _
-    (sym (c .before .before .before .before .before .enum-told .given .1) ∙ c .before .before .before .before .before .before .before .word-at .ensures)
+    there signWord Value Broken _ _ (Less ∷ []) AtMost (More ∷ AtLeast ∷ []) _
+    ((sym (c .before .before .before .before .before .enum-told .given .1) ∙ c .before .before .before .before .before .before .before .word-at .ensures), tt)
     (sym (c .before .next2 .given .1) ∙ c .before .before .before .word-at2 .ensures)
 
 enum-told-2 : tie.Need-enum-told-2
@@ -50,10 +59,10 @@ enum-known-next-3 : tie.Need-enum-known-next-3
 enum-known-next-3 c = search needs
 
 returns-3 : tie.Need-returns-3
+unfolding signAt sign oneOf signWord
 returns-3 c =
-    sign-3 _ _ _
-    (sym (c .before .before .before .before .before .before .before .before .before .enum-told .given .1) ∙ c .before .before .before .before .before .before .before .before .before .before .before .word-at .ensures)
-    (sym (c .before .before .before .before .before .enum-told2 .given .1) ∙ c .before .before .before .before .before .before .before .word-at2 .ensures)
+    there signWord Value Broken _ _ (Less ∷ AtMost ∷ []) More (AtLeast ∷ []) _
+    ((sym (c .before .before .before .before .before .before .before .before .before .enum-told .given .1) ∙ c .before .before .before .before .before .before .before .before .before .before .before .word-at .ensures), ((sym (c .before .before .before .before .before .enum-told2 .given .1) ∙ c .before .before .before .before .before .before .before .word-at2 .ensures), tt))
     (sym (c .before .next3 .given .1) ∙ c .before .before .before .word-at3 .ensures)
 
 enum-told-3 : tie.Need-enum-told-3
@@ -69,23 +78,20 @@ enum-known-next-4 : tie.Need-enum-known-next-4
 enum-known-next-4 c = search needs
 
 returns-4 : tie.Need-returns-4
+unfolding signAt sign oneOf signWord
 returns-4 c =
-    sign-4 _ _ _
-    (sym (c .before .before .before .before .before .before .before .before .before .before .before .before .before .enum-told .given .1) ∙ c .before .before .before .before .before .before .before .before .before .before .before .before .before .before .before .word-at .ensures)
-    (sym (c .before .before .before .before .before .before .before .before .before .enum-told2 .given .1) ∙ c .before .before .before .before .before .before .before .before .before .before .before .word-at2 .ensures)
-    (sym (c .before .before .before .before .before .enum-told3 .given .1) ∙ c .before .before .before .before .before .before .before .word-at3 .ensures)
+    there signWord Value Broken _ _ (Less ∷ AtMost ∷ More ∷ []) AtLeast [] _
+    ((sym (c .before .before .before .before .before .before .before .before .before .before .before .before .before .enum-told .given .1) ∙ c .before .before .before .before .before .before .before .before .before .before .before .before .before .before .before .word-at .ensures), ((sym (c .before .before .before .before .before .before .before .before .before .enum-told2 .given .1) ∙ c .before .before .before .before .before .before .before .before .before .before .before .word-at2 .ensures), ((sym (c .before .before .before .before .before .enum-told3 .given .1) ∙ c .before .before .before .before .before .before .before .word-at3 .ensures), tt)))
     (sym (c .before .next4 .given .1) ∙ c .before .before .before .word-at4 .ensures)
 
 enum-told-4 : tie.Need-enum-told-4
 enum-told-4 c = search needs
 
 returns-5 : tie.Need-returns-5
+unfolding signAt sign oneOf signWord
 returns-5 c =
-    sign-none _ _
-    (sym (c .before .before .before .before .before .before .before .before .before .before .before .before .enum-told .given .1) ∙ c .before .before .before .before .before .before .before .before .before .before .before .before .before .before .word-at .ensures)
-    (sym (c .before .before .before .before .before .before .before .before .enum-told2 .given .1) ∙ c .before .before .before .before .before .before .before .before .before .before .word-at2 .ensures)
-    (sym (c .before .before .before .before .enum-told3 .given .1) ∙ c .before .before .before .before .before .before .word-at3 .ensures)
-    (sym (c .enum-told4 .given .1) ∙ c .before .before .word-at4 .ensures)
+    nowhere signWord Value Broken _ _ (Less ∷ AtMost ∷ More ∷ AtLeast ∷ [])
+    ((sym (c .before .before .before .before .before .before .before .before .before .before .before .before .enum-told .given .1) ∙ c .before .before .before .before .before .before .before .before .before .before .before .before .before .before .word-at .ensures), ((sym (c .before .before .before .before .before .before .before .before .enum-told2 .given .1) ∙ c .before .before .before .before .before .before .before .before .before .before .word-at2 .ensures), ((sym (c .before .before .before .before .enum-told3 .given .1) ∙ c .before .before .before .before .before .before .word-at3 .ensures), ((sym (c .enum-told4 .given .1) ∙ c .before .before .word-at4 .ensures), tt))))
 
 pub sign-at-spec : {M : Type 1} → statement M
 sign-at-spec =
