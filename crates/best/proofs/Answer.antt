@@ -23,10 +23,10 @@ use Rattle.best.proofs.Whole.{causes}
 
 module _ (p : Pattern) (b : Book) where
   -- by its begin, or by its length
-  from-begin : (begin end : ℕ) (w : ℤ) → RunFrom p b begin end w → InWindow p b end (end - begin) w
+  pub from-begin : (begin end : ℕ) (w : ℤ) → RunFrom p b begin end w → InWindow p b end (end - begin) w
   from-begin begin end w r = record { begin = begin; run = r .run; low = r .low; high = r .high }
 
-  by-length : (end len : ℕ) (w : ℤ) → InWindow p b end len w → RunFrom p b (end - len) end w
+  pub by-length : (end len : ℕ) (w : ℤ) → InWindow p b end len w → RunFrom p b (end - len) end w
   by-length end len w i =
       let e : i .begin + len ≡ end = i .run .ends in
       let begins : i .begin ≡ end - len = omega arith in
@@ -43,7 +43,7 @@ module _ (p : Pattern) (b : Book) where
       }
 
   -- a run ends in the book
-  ends-inside : (begin end : ℕ) (w : ℤ) → RunFrom p b begin end w → end ≤ length b
+  pub ends-inside : (begin end : ℕ) (w : ℤ) → RunFrom p b begin end w → end ≤ length b
   ends-inside begin end w r =
       let k = priced-parts p b begin (r .run .steps) w (r .run .price) in
       let low = k .1 in
@@ -51,7 +51,7 @@ module _ (p : Pattern) (b : Book) where
       let e = r .run .ends in
       omega arith
 
-  said : (o : Option Chosen) → Told p b (length b) o → AnswerSays p b (answered none o)
+  pub said : (o : Option Chosen) → Told p b (length b) o → AnswerSays p b (answered none o)
   said none k = λ begin end w r. k end (end - begin) w (ends-inside begin end w r) (from-begin begin end w r)
   said (some f) k =
       record {

@@ -1,6 +1,7 @@
--- Where the program stands in a record's text, and what a step does there.
+-- Where the program stands in a record's text, and what a step does there; then all steps together.
 pub mod Pieces
 pub mod Chunks
 pub mod Moved
 pub mod Steps
 pub mod Opening
+pub mod Printed

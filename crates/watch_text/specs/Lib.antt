@@ -1,2 +1,3 @@
--- What `watch` shows.
+-- What `watch` shows, and what is claimed of it.
 pub mod Shown
+pub mod Claims
