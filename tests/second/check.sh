@@ -25,7 +25,7 @@ expect() {
     rm -rf "$folder" && mkdir "$folder"
     [ "$2" = missing ] || printf '%s\n' "$2" >"$folder/pattern.txt"
     [ "$3" = missing ] || printf '%s\n' "$3" >"$folder/record.txt"
-    got=$("$build/scorer" "$folder")
+    got=$("$build/scorer" "$folder") || got="$got, status $?"
     if [ "$got" = "$4" ]; then pass; else fail "$1: $got"; fi
 }
 # swap TEXT FROM TO: the text with one part changed.
@@ -196,8 +196,7 @@ expect "wrong count of values" "$margin" '(piece 2 10 10)' 'refused 8'
 cases=$build/cases.txt
 answers=$build/answers.txt
 if "$build/generate" "$cases" >"$build/kinds.txt"; then pass; else fail "the generator"; fi
-"$build/generate" "$build/again.txt" >/dev/null
-if cmp -s "$cases" "$build/again.txt"; then pass; else fail "the generator gives other cases each time"; fi
+if "$build/generate" "$build/again.txt" >/dev/null && cmp -s "$cases" "$build/again.txt"; then pass; else fail "the generator gives other cases each time"; fi
 rm -f "$build/again.txt"
 if "$build/scorer" --many "$cases" >"$answers"; then pass; else fail "the scorer on the cases"; fi
 count=$(tail -n 1 "$build/kinds.txt" | awk '{ print $1 }')
@@ -215,7 +214,7 @@ if [ -n "$watch" ]; then
     while [ $number -lt "$count" ]; do
         number=$((number + 1))
         cd "$build/folders/$number" || exit 2
-        "$watch" >got.txt 2>/dev/null
+        "$watch" >got.txt 2>/dev/null || { fail "case $number: watch ended with status $?"; continue; }
         if cmp -s expected.txt got.txt; then pass; else fail "case $number: watch answers otherwise"; fi
     done
 fi

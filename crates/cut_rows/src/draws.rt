@@ -13,9 +13,9 @@ pub fn drawn(seed: u64) -> u32
     ((seed / 65536) % 2048) as u32
 }
 
-// Short calls are as likely as long ones.
+// Short calls are as likely as long ones. One kind is longer than 64 ticks, and one takes all that a call may have.
 fn length_of(kind: u32, chance: u32) -> u32
-    ensures { λ r. ⌜ (0 < r) × (r ≤ 64) ⌝ }
+    ensures { λ r. ⌜ (0 < r) × (r ≤ 65535) ⌝ }
 {
     match kind {
         0 => 1,
@@ -23,16 +23,26 @@ fn length_of(kind: u32, chance: u32) -> u32
         2 => 1 + chance % 4,
         3 => 1 + chance % 8,
         4 => 1 + chance % 16,
-        5 => 1 + chance % 32,
-        _ => 1 + chance % 64,
+        5 => 1 + chance % 64,
+        6 => 65 + chance % 448,
+        _ => 65535,
     }
 }
 
 // The ticks of the next call, out of those left of the piece.
 pub fn cut(seed: u64, left: u32) -> u32
     requires { ⌜ 0 < left ⌝ }
-    ensures { λ r. ⌜ (0 < r) × (r ≤ left) × (r ≤ 64) ⌝ }
+    ensures { λ r. ⌜ (0 < r) × (r ≤ left) × (r ≤ 65535) ⌝ }
 {
-    let ticks = length_of(drawn(seed) % 7, drawn(next(seed)));
+    let ticks = length_of(drawn(seed) % 8, drawn(next(seed)));
     if ticks < left { ticks } else { left }
+}
+
+// Which feed that must be refused is tried (refusals): 0 to 5 at any time, 6 where a call could pass the limit of ticks; 7 for
+// none.
+pub fn kind_of(chance: u32, ticks: u32) -> u32 {
+    if chance < 6 {
+        return chance;
+    }
+    if 2147418112 < ticks { 6 } else { 7 }
 }

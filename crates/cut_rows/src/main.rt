@@ -1,6 +1,6 @@
 // Prints what `watch` prints, but feeds the record's pieces cut at places drawn from a seed, its first argument, with
 // feeds between that must be refused. Prints `wrong` and stops if such a feed is not refused as it must be, or if it alters
-// something.
+// something. Writes to standard error how many calls and refused feeds of each kind there were (`Told`).
 mod draws;
 mod refusals;
 
@@ -8,9 +8,11 @@ use best::Choice;
 use best::choose_all;
 use draws::cut;
 use draws::drawn;
+use draws::kind_of;
 use draws::next;
 use lent_state::feed_through;
 use lent_state::open_through;
+use libc::STDERR_FILENO;
 use libc::STDOUT_FILENO;
 use monitor::Answer;
 use monitor::State;
@@ -30,12 +32,15 @@ use watch_text::put_refused;
 ghost use Prim.Native.Nat.{_≤_, _<_};
 ghost use Rattle.io.specs.Counts.{Counts};
 
-// Where the monitor stands, the best so far, the seed, and whether all went as it must.
+// Where the monitor stands, the best so far, the seed, and whether all went as it must. Counts: calls that end inside a
+// piece (0), of over 64 ticks (1), of over high + 2 ticks, whose later reports repeat (2); then the refused feeds, each at 3
+// and its kind (refusals).
 struct Told {
     state: State,
     choice: Choice,
     seed: u64,
     fine: bool,
+    counts: [u64; 10],
 }
 
 pub fn channels(p: Pattern) -> usize
@@ -74,28 +79,60 @@ fn put_row(out: &mut [u8], at: usize, end: u64, score: i64, length: u64) -> usiz
     put_byte(out, n, b'\n')
 }
 
+// Written, once the buffer has no room for another line.
+fn flushed(out: &[u8], n: usize) -> usize {
+    if n < 4000 {
+        return n;
+    }
+    show(out, n);
+    0
+}
+
 // The lines of a call's ends.
-fn show_rows(ticks: u32, count: u32, scores: &[i64; 64], lengths: &[u32; 64]) {
+fn show_rows(ticks: u32, count: u32, scores: &[i64], lengths: &[u32]) {
     let mut out = io::buffer();
     let mut n: usize = 0;
     let mut i: usize = 0;
-    while i < 64 && i < count as usize {
+    while i < count as usize && i < scores.len() && i < lengths.len() {
         let end = ticks as u64 + i as u64 + 1;
-        n = put_row(&mut out, n, end, scores[i], wide(lengths[i]));
+        let m = put_row(&mut out, n, end, scores[i], wide(lengths[i]));
+        n = flushed(&out, m);
         i += 1;
     }
     show(&out, n);
 }
 
 fn stopped(t: Told) -> Told {
-    let state = t.state;
-    let choice = t.choice;
-    Told {
-        state: state,
-        choice: choice,
-        seed: t.seed,
-        fine: false,
+    let mut n = t;
+    n.fine = false;
+    n
+}
+
+// Further on in the draws.
+fn drawn_on(t: Told) -> Told {
+    let mut n = t;
+    n.seed = next(next(t.seed));
+    n
+}
+
+fn one_more(n: u64) -> u64 {
+    if n < 1000000000 { n + 1 } else { n }
+}
+
+fn counted_if(t: Told, kind: usize, counts: bool) -> Told {
+    if counts && kind < 10 {
+        let mut n = t;
+        n.counts[kind] = one_more(t.counts[kind]);
+        return n;
     }
+    t
+}
+
+// A call of these ticks, when so many were left of the piece.
+fn counted_call(p: Pattern, t: Told, ticks: u32, left: u32) -> Told {
+    let cut = counted_if(t, 0, ticks < left);
+    let long = counted_if(cut, 1, 64 < ticks);
+    counted_if(long, 2, p.high as u32 + 2 < ticks)
 }
 
 // The best with the reports of a call.
@@ -104,10 +141,16 @@ fn chosen(
     f: Choice,
     ticks: u32,
     count: u32,
-    scores: &[i64; 64],
-    lengths: &[u32; 64],
+    scores: &[i64],
+    lengths: &[u32],
 ) -> Choice {
-    if 64 < count {
+    if 65535 < count {
+        return f;
+    }
+    if scores.len() < 65535 {
+        return f;
+    }
+    if lengths.len() < 65535 {
         return f;
     }
     if 2147483647 - count < ticks {
@@ -124,10 +167,10 @@ fn feed_cut(
     t: Told,
     first: &mut [i64],
     second: &mut [i64],
+    scores: &mut [i64],
+    lengths: &mut [u32],
 ) -> Told {
     let begin: usize = 0;
-    let mut scores: [i64; 64] = [77; 64];
-    let mut lengths: [u32; 64] = [77; 64];
     let n = channels(p);
     let state = t.state;
     let f = t.choice;
@@ -138,20 +181,22 @@ fn feed_cut(
         second,
         ticks,
         &values[begin..n],
-        &mut scores,
-        &mut lengths,
+        scores,
+        lengths,
     );
     let later = after.state;
     let answer = after.answer;
     match answer {
         Answer::Done => {
-            show_rows(state.ticks, ticks, &scores, &lengths);
-            let choice = chosen(p, f, state.ticks, ticks, &scores, &lengths);
+            show_rows(state.ticks, ticks, scores, lengths);
+            let choice = chosen(p, f, state.ticks, ticks, scores, lengths);
+            let counts = t.counts;
             Told {
                 state: later,
                 choice: choice,
                 seed: t.seed,
                 fine: t.fine,
+                counts: counts,
             }
         }
         Answer::Refused(_) => stopped(t),
@@ -166,29 +211,39 @@ fn feed_one(
     t: Told,
     first: &mut [i64],
     second: &mut [i64],
+    scores: &mut [i64],
+    lengths: &mut [u32],
 ) -> Told
     requires { ⌜ 0 < ticks ⌝ }
 {
     let state = t.state;
-    let kind = drawn(t.seed) % 8;
+    let kind = kind_of(drawn(t.seed) % 12, state.ticks);
     let chance = drawn(next(t.seed));
+    let told = counted_if(t, kind as usize + 3, kind < 7);
     if refused(state, p, first, second, ticks, values, kind, chance) {
-        feed_cut(p, ticks, values, t, first, second)
+        feed_cut(p, ticks, values, told, first, second, scores, lengths)
     } else {
-        stopped(t)
+        stopped(told)
     }
 }
 
-// Further on in the draws.
-fn drawn_on(t: Told) -> Told {
-    let state = t.state;
-    let choice = t.choice;
-    Told {
-        state: state,
-        choice: choice,
-        seed: next(next(t.seed)),
-        fine: t.fine,
-    }
+// The same, counted, when so many ticks were left of the piece.
+fn feed_next(
+    p: Pattern,
+    ticks: u32,
+    left: u32,
+    values: [i32; 8],
+    t: Told,
+    first: &mut [i64],
+    second: &mut [i64],
+    scores: &mut [i64],
+    lengths: &mut [u32],
+) -> Told
+    requires { ⌜ 0 < ticks ⌝ }
+{
+    let call = counted_call(p, drawn_on(t), ticks, left);
+    let fed = feed_one(p, ticks, values, call, first, second, scores, lengths);
+    drawn_on(fed)
 }
 
 // One piece, in cuts.
@@ -199,26 +254,36 @@ fn feed_whole(
     t: Told,
     first: &mut [i64],
     second: &mut [i64],
+    scores: &mut [i64],
+    lengths: &mut [u32],
 ) -> Told {
     let mut told = t;
     let mut left = duration;
     while 0 < left && told.fine {
         let ticks = cut(told.seed, left);
-        let fed = feed_one(p, ticks, values, drawn_on(told), first, second);
-        told = drawn_on(fed);
+        told = feed_next(p, ticks, left, values, told, first, second, scores, lengths);
         left -= ticks;
     }
     told
 }
 
 // All pieces.
-fn feed_all(p: Pattern, text: &[u8], t: Told, first: &mut [i64], second: &mut [i64]) -> Told {
+fn feed_all(
+    p: Pattern,
+    text: &[u8],
+    t: Told,
+    first: &mut [i64],
+    second: &mut [i64],
+    scores: &mut [i64],
+    lengths: &mut [u32],
+) -> Told {
     let mut told = t;
     let mut at: usize = 0;
     while at < text.len() && told.fine {
         let piece = piece_at(text, at);
         let values = piece.values;
-        told = feed_whole(p, piece.duration, values, told, first, second);
+        let duration = piece.duration;
+        told = feed_whole(p, duration, values, told, first, second, scores, lengths);
         if piece.next <= at {
             return told;
         }
@@ -251,6 +316,18 @@ fn show_last(t: Told) {
     }
 }
 
+// Where they are counted.
+fn show_counts(t: Told) {
+    let counts = t.counts;
+    let mut i: usize = 0;
+    while i < 10 {
+        io::print_decimal(STDERR_FILENO, counts[i]);
+        io::write_all(STDERR_FILENO, b" ");
+        i += 1;
+    }
+    io::write_all(STDERR_FILENO, b"\n");
+}
+
 // The monitor is open: heading, rows, best.
 fn show_fed(
     p: Pattern,
@@ -270,9 +347,14 @@ fn show_fed(
         choice: choice,
         seed: seed,
         fine: true,
+        counts: [0; 10],
     };
+    let mut scores: [i64; 65535] = [77; 65535];
+    let mut lengths: [u32; 65535] = [77; 65535];
     show_heading();
-    show_last(feed_all(p, text, t, first, second));
+    let told = feed_all(p, text, t, first, second, &mut scores, &mut lengths);
+    show_last(told);
+    show_counts(told);
 }
 
 // After the opening, which may be refused for its tables. It keeps nothing of the state lent.

@@ -5,6 +5,7 @@ use monitor::Answer;
 use monitor::State;
 use pattern::Pattern;
 use pattern::number;
+use record::rules::least;
 use record::samples::same_sample;
 ghost use Prim.Native.Nat.{_≤_, _<_};
 
@@ -39,22 +40,12 @@ fn same_cells(a: &[i64], b: &[i64]) -> bool {
     ok
 }
 
-// Are the scores as they were before the feed, all 77?
-fn untold_scores(scores: &[i64]) -> bool {
+// Are the report places as they were before the feed, all 77?
+fn untold(scores: &[i64; 512], lengths: &[u32; 512]) -> bool {
     let mut ok = true;
     let mut i: usize = 0;
-    while i < scores.len() {
-        ok = ok & (scores[i] == 77);
-        i += 1;
-    }
-    ok
-}
-
-fn untold_lengths(lengths: &[u32]) -> bool {
-    let mut ok = true;
-    let mut i: usize = 0;
-    while i < lengths.len() {
-        ok = ok & (lengths[i] == 77);
+    while i < 512 {
+        ok = ok & (scores[i] == 77) & (lengths[i] == 77);
         i += 1;
     }
     ok
@@ -126,7 +117,7 @@ fn refused_front(
     }
 }
 
-// The same with 64 report places, which are all as they were.
+// The same with 512 report places, which are all as they were.
 fn refused_with(
     s: State,
     p: Pattern,
@@ -137,8 +128,8 @@ fn refused_with(
     lent: Lent,
     expected: u8,
 ) -> bool {
-    let mut scores: [i64; 64] = [77; 64];
-    let mut lengths: [u32; 64] = [77; 64];
+    let mut scores: [i64; 512] = [77; 512];
+    let mut lengths: [u32; 512] = [77; 512];
     let refused = refused_front(
         s,
         p,
@@ -151,15 +142,15 @@ fn refused_with(
         lent,
         expected,
     );
-    refused & untold_scores(&scores) & untold_lengths(&lengths)
+    refused & untold(&scores, &lengths)
 }
 
 // So many values, and all report places.
 fn with_values(n: usize) -> Lent {
     Lent {
         values: n,
-        scores: 64,
-        lengths: 64,
+        scores: 512,
+        lengths: 512,
     }
 }
 
@@ -234,43 +225,75 @@ fn value_refused(
     refused_with(s, p, first, second, ticks, odd, lent, 8)
 }
 
-// So many values; the scores or the lengths are one short of the ticks.
-fn one_short(n: usize, ticks: u32, chance: u32) -> Lent
+// One report place less than ticks.
+fn one_short(ticks: u32) -> usize
     requires { ⌜ 0 < ticks ⌝ }
 {
-    let short = (ticks - 1) as usize;
-    if chance < 1024 {
-        Lent {
-            values: n,
-            scores: short,
-            lengths: 64,
-        }
-    } else {
-        Lent {
-            values: n,
-            scores: 64,
-            lengths: short,
-        }
-    }
+    (ticks - 1) as usize
 }
 
-// A report slice one short of the duration.
-fn reports_refused(
+// The scores one short of the duration.
+fn scores_refused(
     s: State,
     p: Pattern,
     first: &mut [i64],
     second: &mut [i64],
     ticks: u32,
     values: [i32; 8],
-    chance: u32,
 ) -> bool
     requires { ⌜ 0 < ticks ⌝ }
 {
-    let lent = one_short(channels(p), ticks, chance);
+    let lent = Lent {
+        values: channels(p),
+        scores: one_short(ticks),
+        lengths: 512,
+    };
     refused_with(s, p, first, second, ticks, values, lent, 6)
 }
 
-// One of the feeds above, or none; a call of these ticks and values is next.
+// The lengths one short of the duration.
+fn lengths_refused(
+    s: State,
+    p: Pattern,
+    first: &mut [i64],
+    second: &mut [i64],
+    ticks: u32,
+    values: [i32; 8],
+) -> bool
+    requires { ⌜ 0 < ticks ⌝ }
+{
+    let lent = Lent {
+        values: channels(p),
+        scores: 512,
+        lengths: one_short(ticks),
+    };
+    refused_with(s, p, first, second, ticks, values, lent, 6)
+}
+
+// A tick too many, or as many too many as a call may have; the report slices may be too short as well, which comes after.
+fn past_the_limit(ticks: u32, chance: u32) -> u32 {
+    if ticks <= 2147483647 && chance < 1024 {
+        2147483648 - ticks
+    } else {
+        65535
+    }
+}
+
+// A duration that with the ticks so far passes 2,147,483,647.
+fn ticks_refused(
+    s: State,
+    p: Pattern,
+    first: &mut [i64],
+    second: &mut [i64],
+    values: [i32; 8],
+    chance: u32,
+) -> bool {
+    let lent = with_values(channels(p));
+    let duration = past_the_limit(s.ticks, chance);
+    refused_with(s, p, first, second, duration, values, lent, 13)
+}
+
+// One of the feeds above by its kind, or none; a call of these ticks and values is next.
 pub fn refused(
     s: State,
     p: Pattern,
@@ -283,12 +306,15 @@ pub fn refused(
 ) -> bool
     requires { ⌜ 0 < ticks ⌝ }
 {
+    let few = least(ticks, 512);
     match kind {
         0 => duration_refused(s, p, first, second, 0, values),
         1 => duration_refused(s, p, first, second, 65536, values),
-        2 => count_refused(s, p, first, second, ticks, values, chance),
-        3 => value_refused(s, p, first, second, ticks, values, chance),
-        4 => reports_refused(s, p, first, second, ticks, values, chance),
+        2 => count_refused(s, p, first, second, few, values, chance),
+        3 => value_refused(s, p, first, second, few, values, chance),
+        4 => scores_refused(s, p, first, second, few, values),
+        5 => lengths_refused(s, p, first, second, few, values),
+        6 => ticks_refused(s, p, first, second, values, chance),
         _ => true,
     }
 }

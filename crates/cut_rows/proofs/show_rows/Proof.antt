@@ -1,4 +1,4 @@
--- `show_rows` is safe and ends: what is left of the 64 report places falls.
+-- `show_rows` is safe and ends: what is left of the ticks falls.
 use borrow.Author.Needs.{needs}
 use mathlib.Core.Path.{_≡_}
 use Prim.Native.Nat.{_-_}
@@ -10,7 +10,7 @@ abbrev Inv-loop : tie.InvT-loop
 Inv-loop ticks count scores lengths out₀ n₀ i₀ out n i = length out ≡ 4096
 
 abbrev μ-loop : tie.MeasureT-loop
-μ-loop ticks count scores lengths out₀ n₀ i₀ out n i = 64 - i
+μ-loop ticks count scores lengths out₀ n₀ i₀ out n i = count - i
 
 buffer-requires : tie.Need-buffer-requires Inv-loop μ-loop
 buffer-requires c κs = search needs
@@ -30,20 +30,26 @@ slice-aggregate-put-row c = search needs
 mul-put-row : tie.Need-mul-put-row Inv-loop μ-loop
 mul-put-row c = search needs
 
-element-copy-out-put-row : tie.Need-element-copy-out-put-row Inv-loop μ-loop
-element-copy-out-put-row c = search needs
+shared-slice-copy-out-put-row : tie.Need-shared-slice-copy-out-put-row Inv-loop μ-loop
+shared-slice-copy-out-put-row c = search needs
 
 mul-wide : tie.Need-mul-wide Inv-loop μ-loop
 mul-wide c = search needs
 
-element-copy-out-wide : tie.Need-element-copy-out-wide Inv-loop μ-loop
-element-copy-out-wide c = search needs
+shared-slice-read-wide : tie.Need-shared-slice-read-wide Inv-loop μ-loop
+shared-slice-read-wide c = search needs
 
 wide-requires : tie.Need-wide-requires Inv-loop μ-loop
 wide-requires c κs = search needs
 
 put-row-requires : tie.Need-put-row-requires Inv-loop μ-loop
 put-row-requires c κs = search needs
+
+slice-aggregate-flushed : tie.Need-slice-aggregate-flushed Inv-loop μ-loop
+slice-aggregate-flushed c = search needs
+
+flushed-requires : tie.Need-flushed-requires Inv-loop μ-loop
+flushed-requires c κs = search needs
 
 add-i : tie.Need-add-i Inv-loop μ-loop
 add-i c = search needs
@@ -75,11 +81,13 @@ show-rows-spec =
     add-end-2
     slice-aggregate-put-row
     mul-put-row
-    element-copy-out-put-row
+    shared-slice-copy-out-put-row
     mul-wide
-    element-copy-out-wide
+    shared-slice-read-wide
     wide-requires
     put-row-requires
+    slice-aggregate-flushed
+    flushed-requires
     add-i
     loop-less
     loop-again
