@@ -128,11 +128,12 @@ fn counted_if(t: Told, kind: usize, counts: bool) -> Told {
     t
 }
 
-// A call of these ticks, when so many were left of the piece.
-fn counted_call(p: Pattern, t: Told, ticks: u32, left: u32) -> Told {
+// A call of these ticks, when so many were left of the piece, and the refused feed before it.
+fn counted(p: Pattern, t: Told, ticks: u32, left: u32, kind: u32) -> Told {
     let cut = counted_if(t, 0, ticks < left);
     let long = counted_if(cut, 1, 64 < ticks);
-    counted_if(long, 2, p.high as u32 + 2 < ticks)
+    let still = counted_if(long, 2, p.high as u32 + 2 < ticks);
+    counted_if(still, kind as usize + 3, kind < 7)
 }
 
 // The best with the reports of a call.
@@ -207,30 +208,6 @@ fn feed_cut(
 fn feed_one(
     p: Pattern,
     ticks: u32,
-    values: [i32; 8],
-    t: Told,
-    first: &mut [i64],
-    second: &mut [i64],
-    scores: &mut [i64],
-    lengths: &mut [u32],
-) -> Told
-    requires { ⌜ 0 < ticks ⌝ }
-{
-    let state = t.state;
-    let kind = kind_of(drawn(t.seed) % 12, state.ticks);
-    let chance = drawn(next(t.seed));
-    let told = counted_if(t, kind as usize + 3, kind < 7);
-    if refused(state, p, first, second, ticks, values, kind, chance) {
-        feed_cut(p, ticks, values, told, first, second, scores, lengths)
-    } else {
-        stopped(told)
-    }
-}
-
-// The same, counted, when so many ticks were left of the piece.
-fn feed_next(
-    p: Pattern,
-    ticks: u32,
     left: u32,
     values: [i32; 8],
     t: Told,
@@ -238,12 +215,17 @@ fn feed_next(
     second: &mut [i64],
     scores: &mut [i64],
     lengths: &mut [u32],
-) -> Told
-    requires { ⌜ 0 < ticks ⌝ }
-{
-    let call = counted_call(p, drawn_on(t), ticks, left);
-    let fed = feed_one(p, ticks, values, call, first, second, scores, lengths);
-    drawn_on(fed)
+) -> Told {
+    let on = drawn_on(t);
+    let state = on.state;
+    let kind = kind_of(drawn(on.seed) % 12, state.ticks);
+    let chance = drawn(next(on.seed));
+    let told = counted(p, drawn_on(on), ticks, left, kind);
+    if refused(state, p, first, second, ticks, values, kind, chance) {
+        feed_cut(p, ticks, values, told, first, second, scores, lengths)
+    } else {
+        stopped(told)
+    }
 }
 
 // One piece, in cuts.
@@ -261,7 +243,7 @@ fn feed_whole(
     let mut left = duration;
     while 0 < left && told.fine {
         let ticks = cut(told.seed, left);
-        told = feed_next(p, ticks, left, values, told, first, second, scores, lengths);
+        told = feed_one(p, ticks, left, values, told, first, second, scores, lengths);
         left -= ticks;
     }
     told

@@ -76,95 +76,68 @@ fn refused_into(
         & same_cells(second, &two)
 }
 
-// How many of the values and of the report places a feed is lent.
-struct Lent {
-    values: usize,
+// A feed that must be refused with the number `expected`: its piece, and how many of the values and of the report places it
+// is lent.
+struct Odd {
+    duration: u32,
+    values: [i32; 8],
+    count: usize,
     scores: usize,
     lengths: usize,
+    expected: u8,
 }
 
-// The same of a feed that is lent the first of the values and of the report places.
+// Such a feed is refused; state and tables are as they were.
 fn refused_front(
     s: State,
     p: Pattern,
     first: &mut [i64],
     second: &mut [i64],
-    duration: u32,
     values: &[i32],
     scores: &mut [i64],
     lengths: &mut [u32],
-    lent: Lent,
-    expected: u8,
+    odd: Odd,
 ) -> bool {
     let begin: usize = 0;
-    let n = lent.values;
-    let k = lent.scores;
-    let m = lent.lengths;
+    let n = odd.count;
+    let k = odd.scores;
+    let m = odd.lengths;
     if n <= values.len() && k <= scores.len() && m <= lengths.len() {
         refused_into(
             s,
             p,
             first,
             second,
-            duration,
+            odd.duration,
             &values[begin..n],
             &mut scores[begin..k],
             &mut lengths[begin..m],
-            expected,
+            odd.expected,
         )
     } else {
         false
     }
 }
 
-// The same with 512 report places, which are all as they were.
-fn refused_with(
-    s: State,
-    p: Pattern,
-    first: &mut [i64],
-    second: &mut [i64],
-    duration: u32,
-    values: [i32; 8],
-    lent: Lent,
-    expected: u8,
-) -> bool {
+// So are 512 report places.
+fn refused_with(s: State, p: Pattern, first: &mut [i64], second: &mut [i64], odd: Odd) -> bool {
     let mut scores: [i64; 512] = [77; 512];
     let mut lengths: [u32; 512] = [77; 512];
-    let refused = refused_front(
-        s,
-        p,
-        first,
-        second,
-        duration,
-        &values,
-        &mut scores,
-        &mut lengths,
-        lent,
-        expected,
-    );
+    let values = odd.values;
+    let refused = refused_front(s, p, first, second, &values, &mut scores, &mut lengths, odd);
     refused & untold(&scores, &lengths)
 }
 
-// So many values, and all report places.
-fn with_values(n: usize) -> Lent {
-    Lent {
-        values: n,
+// A piece that breaks its rules.
+fn odd_piece(duration: u32, values: [i32; 8], count: usize) -> Odd {
+    Odd {
+        duration: duration,
+        values: values,
+        count: count,
         scores: 512,
         lengths: 512,
+        expected: 8,
     }
-}
-
-// A duration that no piece has: 0 or 65,536.
-fn duration_refused(
-    s: State,
-    p: Pattern,
-    first: &mut [i64],
-    second: &mut [i64],
-    duration: u32,
-    values: [i32; 8],
-) -> bool {
-    let lent = with_values(channels(p));
-    refused_with(s, p, first, second, duration, values, lent, 8)
 }
 
 // A count from 0 to 8, but not n.
@@ -173,20 +146,6 @@ fn other_count(n: usize, chance: u32) -> usize
 {
     let m = (chance % 8) as usize;
     if m < n { m } else { m + 1 }
-}
-
-// A wrong count of values.
-fn count_refused(
-    s: State,
-    p: Pattern,
-    first: &mut [i64],
-    second: &mut [i64],
-    ticks: u32,
-    values: [i32; 8],
-    chance: u32,
-) -> bool {
-    let lent = with_values(other_count(channels(p), chance));
-    refused_with(s, p, first, second, ticks, values, lent, 8)
 }
 
 // A channel.
@@ -210,67 +169,30 @@ fn out_of_range(values: [i32; 8], channels: usize, chance: u32) -> [i32; 8] {
     odd
 }
 
-// A value out of range.
-fn value_refused(
-    s: State,
-    p: Pattern,
-    first: &mut [i64],
-    second: &mut [i64],
-    ticks: u32,
+// Report slices of these lengths, one of them shorter than the duration.
+fn odd_reports(
+    duration: u32,
     values: [i32; 8],
-    chance: u32,
-) -> bool {
-    let lent = with_values(channels(p));
-    let odd = out_of_range(values, lent.values, chance);
-    refused_with(s, p, first, second, ticks, odd, lent, 8)
+    count: usize,
+    scores: usize,
+    lengths: usize,
+) -> Odd {
+    Odd {
+        duration: duration,
+        values: values,
+        count: count,
+        scores: scores,
+        lengths: lengths,
+        expected: 6,
+    }
 }
 
-// One report place less than ticks.
-fn one_short(ticks: u32) -> usize
-    requires { ⌜ 0 < ticks ⌝ }
-{
-    (ticks - 1) as usize
+// One place less than ticks.
+fn one_short(ticks: u32) -> usize {
+    if 0 < ticks { (ticks - 1) as usize } else { 0 }
 }
 
-// The scores one short of the duration.
-fn scores_refused(
-    s: State,
-    p: Pattern,
-    first: &mut [i64],
-    second: &mut [i64],
-    ticks: u32,
-    values: [i32; 8],
-) -> bool
-    requires { ⌜ 0 < ticks ⌝ }
-{
-    let lent = Lent {
-        values: channels(p),
-        scores: one_short(ticks),
-        lengths: 512,
-    };
-    refused_with(s, p, first, second, ticks, values, lent, 6)
-}
-
-// The lengths one short of the duration.
-fn lengths_refused(
-    s: State,
-    p: Pattern,
-    first: &mut [i64],
-    second: &mut [i64],
-    ticks: u32,
-    values: [i32; 8],
-) -> bool
-    requires { ⌜ 0 < ticks ⌝ }
-{
-    let lent = Lent {
-        values: channels(p),
-        scores: 512,
-        lengths: one_short(ticks),
-    };
-    refused_with(s, p, first, second, ticks, values, lent, 6)
-}
-
-// A tick too many, or as many too many as a call may have; the report slices may be too short as well, which comes after.
+// A tick too many, or as many too many as a call may have.
 fn past_the_limit(ticks: u32, chance: u32) -> u32 {
     if ticks <= 2147483647 && chance < 1024 {
         2147483648 - ticks
@@ -279,21 +201,40 @@ fn past_the_limit(ticks: u32, chance: u32) -> u32 {
     }
 }
 
-// A duration that with the ticks so far passes 2,147,483,647.
-fn ticks_refused(
-    s: State,
-    p: Pattern,
-    first: &mut [i64],
-    second: &mut [i64],
-    values: [i32; 8],
-    chance: u32,
-) -> bool {
-    let lent = with_values(channels(p));
-    let duration = past_the_limit(s.ticks, chance);
-    refused_with(s, p, first, second, duration, values, lent, 13)
+// A duration that passes the limit of ticks. The report slices may be too short as well, which comes after.
+fn odd_total(duration: u32, values: [i32; 8], count: usize) -> Odd {
+    Odd {
+        duration: duration,
+        values: values,
+        count: count,
+        scores: 512,
+        lengths: 512,
+        expected: 13,
+    }
 }
 
-// One of the feeds above by its kind, or none; a call of these ticks and values is next.
+// By its kind: duration 0 (0) or 65,536 (1), a wrong count of values (2), a value out of range (3), the scores (4) or the
+// lengths (5) one short, a tick too many (6).
+fn odd_feed(
+    channels: usize,
+    so_far: u32,
+    ticks: u32,
+    values: [i32; 8],
+    kind: u32,
+    chance: u32,
+) -> Odd {
+    match kind {
+        0 => odd_piece(0, values, channels),
+        1 => odd_piece(65536, values, channels),
+        2 => odd_piece(ticks, values, other_count(channels, chance)),
+        3 => odd_piece(ticks, out_of_range(values, channels, chance), channels),
+        4 => odd_reports(ticks, values, channels, one_short(ticks), 512),
+        5 => odd_reports(ticks, values, channels, 512, one_short(ticks)),
+        _ => odd_total(past_the_limit(so_far, chance), values, channels),
+    }
+}
+
+// Is such a feed refused as it must be? Of kind 7 there is none. A call of these ticks and values is next.
 pub fn refused(
     s: State,
     p: Pattern,
@@ -303,18 +244,17 @@ pub fn refused(
     values: [i32; 8],
     kind: u32,
     chance: u32,
-) -> bool
-    requires { ⌜ 0 < ticks ⌝ }
-{
-    let few = least(ticks, 512);
-    match kind {
-        0 => duration_refused(s, p, first, second, 0, values),
-        1 => duration_refused(s, p, first, second, 65536, values),
-        2 => count_refused(s, p, first, second, few, values, chance),
-        3 => value_refused(s, p, first, second, few, values, chance),
-        4 => scores_refused(s, p, first, second, few, values),
-        5 => lengths_refused(s, p, first, second, few, values),
-        6 => ticks_refused(s, p, first, second, values, chance),
-        _ => true,
+) -> bool {
+    if 6 < kind {
+        return true;
     }
+    let odd = odd_feed(
+        channels(p),
+        s.ticks,
+        least(ticks, 512),
+        values,
+        kind,
+        chance,
+    );
+    refused_with(s, p, first, second, odd)
 }

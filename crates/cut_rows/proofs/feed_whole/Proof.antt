@@ -17,8 +17,8 @@ loop-holds c = search needs
 cut-requires : tie.Need-cut-requires Inv-loop μ-loop
 cut-requires c κs = search needs
 
-feed-next-requires : tie.Need-feed-next-requires Inv-loop μ-loop
-feed-next-requires c κs = search needs
+feed-one-requires : tie.Need-feed-one-requires Inv-loop μ-loop
+feed-one-requires c κs = search needs
 
 sub-left : tie.Need-sub-left Inv-loop μ-loop
 sub-left c = search needs
@@ -67,7 +67,7 @@ feed-whole-spec =
     μ-loop
     loop-holds
     cut-requires
-    feed-next-requires
+    feed-one-requires
     sub-left
     loop-less
     loop-again
