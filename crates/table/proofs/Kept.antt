@@ -60,9 +60,9 @@ module _ (l : Layout) (w : Weighing) (n : ℕ) where
   unfolding leaveOf
   leave-kept p cs x e t = kept-cond (eqb (e .from) p) (turn-kept e 0 cs x t) (kept-refl _ t)
 
-  pub stay-kept : (g : ℤ) (p at k : ℕ) (cs : Clocks) (t : List ℤ) → Kept ((n + 1) * l .row) t (stayOf l w g n p at k cs t)
+  pub stay-kept : (g : ℤ) (p : ℕ) (cs : Clocks) (v : ℤ) (t : List ℤ) → Kept ((n + 1) * l .row) t (stayOf l w g n p cs v t)
   unfolding stayOf
-  stay-kept g p at k cs t = turn-kept (still p) 1 (ticked (l .radices) cs) _ t
+  stay-kept g p cs v t = turn-kept (still p) 1 (ticked (l .radices) cs) _ t
 
   module _ (es : List Edge) (count : ℕ) where
     pub spread-kept : (p : ℕ) (cs : Clocks) (x : ℤ) (t : List ℤ) → Kept ((n + 1) * l .row) t (spreadOf l w es count n p cs x t)

@@ -182,29 +182,30 @@ cell-in {t} {l} {g} {n} k h low =
 pub passing-moving : {t : List ℤ} {l : Layout} {g : ℤ} {n p at : ℕ} (cs : Clocks) → Passing t l g n p at → Within (l .radices) cs → Moving t l n cs
 passing-moving cs h i = record { laid = h .laid; low = h .low; inside = h .inside; within = i }
 
-module _ (l : Layout) (w : Weighing) (g : ℤ) (n p at k : ℕ) (cs : Clocks) (t : List ℤ) where
-  pub stay-is : (c : Clocks) (x : ℤ) (e : Edge) (to : ℕ) (u : List ℤ) → c ≡ ticked (l .radices) cs → x ≡ weightingOf w .combine (cellAt t (at + k)) g → e ≡ still p → to ≡ blockAt l (n + 1) 1 p → u ≡ moved l w e to c x t → u ≡ stayOf l w g n p at k cs t
+module _ (l : Layout) (w : Weighing) (g : ℤ) (n p : ℕ) (cs : Clocks) where
+  pub stay-is : (v : ℤ) (t : List ℤ) (c : Clocks) (x : ℤ) (e : Edge) (to : ℕ) (u : List ℤ) → c ≡ ticked (l .radices) cs → x ≡ weightingOf w .combine v g → e ≡ still p → to ≡ blockAt l (n + 1) 1 p → u ≡ moved l w e to c x t → u ≡ stayOf l w g n p cs v t
   unfolding stayOf
-  stay-is c x e to u a f s h q = rw (a, f, s, h) at q
-
-  -- the stay and what is sent along all edges make up the visit of an occupied cell
-  pub sent-visit : (es : List Edge) (count : ℕ) (s : Sent) (u : List ℤ) → ltZ mark (cellAt t (at + k)) ≡ true → s ≡ sentOf l w g cs (cellAt t (at + k)) → u ≡ stayOf l w g n p at k cs t → leavesOf l w es n p (s .clocks) (s .worth) count u ≡ visitOf l w es count g n p at k cs t
-  unfolding stayOf visitOf spreadOf
-  sent-visit es count s u m e f = rw (m, e, f)
+  stay-is v t c x e to u a f s h q = rw (a, f, s, h) at q
 
   pub sent-is : (c : Clocks) (v x y : ℤ) → c ≡ ticked (l .radices) cs → x ≡ weightingOf w .combine v g → y ≡ x → _≡_ {A = Sent} (record { clocks = c; worth = y }) (sentOf l w g cs v)
   sent-is c v x y a f e = rw (e, f, a)
 
-  pub visit-no : (es : List Edge) (count : ℕ) → ltZ mark (cellAt t (at + k)) ≡ false → visitOf l w es count g n p at k cs t ≡ t
-  unfolding visitOf
-  visit-no es count m = rw m
+  module _ (at k : ℕ) (t : List ℤ) (es : List Edge) (count : ℕ) where
+    -- the stay and what is sent along all edges make up the visit of an occupied cell
+    pub sent-visit : (v : ℤ) (s : Sent) (u : List ℤ) → v ≡ cellAt t (at + k) → ltZ mark (cellAt t (at + k)) ≡ true → s ≡ sentOf l w g cs v → u ≡ stayOf l w g n p cs v t → leavesOf l w es n p (s .clocks) (s .worth) count u ≡ visitOf l w es count g n p at k cs t
+    unfolding stayOf visitOf spreadOf
+    sent-visit v s u h m e f = rw (m, e, f, h)
+
+    pub visit-no : ltZ mark (cellAt t (at + k)) ≡ false → visitOf l w es count g n p at k cs t ≡ t
+    unfolding visitOf
+    visit-no m = rw m
 
 -- cells that hold no worth are left out
 pub visits-skip : (l : Layout) (w : Weighing) (es : List Edge) (count : ℕ) (g : ℤ) (n p at k r : ℕ) (t : List ℤ) → k ≤ r → ((j : ℕ) → k ≤ j → j < r → ltZ mark (cellAt (visitsOf l w es count g n p at k t) (at + j)) ≡ false) → visitsOf l w es count g n p at k t ≡ visitsOf l w es count g n p at r t
 visits-skip l w es count g n p at k r t low h =
     let e : k + (r - k) ≡ r = omega arith in
     sym (each-skip (λ i. visitOf l w es count g n p at i (clocksAt (l .radices) i)) (r - k) k t
-    (λ j a b. visit-no l w g n p at j (clocksAt (l .radices) j) (visitsOf l w es count g n p at k t) es count (h j a (omega arith))))
+    (λ j a b. visit-no l w g n p (clocksAt (l .radices) j) at j (visitsOf l w es count g n p at k t) es count (h j a (omega arith))))
     ∙ ap (λ (m : ℕ). visitsOf l w es count g n p at m t) e
 
 -- one mark more is passed over

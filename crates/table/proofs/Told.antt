@@ -111,9 +111,9 @@ told-end l w v es count ends low n t r R e f = rw e at f
 -- ---- a cell, a block, a place
 
 module _ (l : Layout) (w : Weighing) (es : List Edge) (count : ℕ) (tells : List Bool) (g : ℤ) (n p at : ℕ) (t : List ℤ) where
-  pub told-visit : (k : ℕ) (cs : Clocks) (s : Sent) (r : Report) → ltZ mark (cellAt t (at + k)) ≡ true → s ≡ sentOf l w g cs (cellAt t (at + k)) → each (λ i. toldLeave w tells n p (s .clocks) (s .worth) (edgeIn es i)) count r ≡ toldVisit l w es count tells g n p at k cs t r
+  pub told-visit : (k : ℕ) (cs : Clocks) (v : ℤ) (s : Sent) (r : Report) → v ≡ cellAt t (at + k) → ltZ mark (cellAt t (at + k)) ≡ true → s ≡ sentOf l w g cs v → each (λ i. toldLeave w tells n p (s .clocks) (s .worth) (edgeIn es i)) count r ≡ toldVisit l w es count tells g n p at k cs t r
   unfolding toldVisit
-  told-visit k cs s r m e = rw (m, e)
+  told-visit k cs v s r h m e = rw (m, e, h)
 
   pub told-visit-no : (k : ℕ) (cs : Clocks) (r : Report) → ltZ mark (cellAt t (at + k)) ≡ false → toldVisit l w es count tells g n p at k cs t r ≡ r
   unfolding toldVisit

@@ -14,6 +14,7 @@ use Rattle.cells.specs.declared.Layout.{Layout}
 use Rattle.cells.specs.Layout.{cellsIn, Laid}
 use Rattle.cells.specs.Index.{Within}
 use Rattle.table.specs.declared.View.{View}
+use Rattle.table.specs.declared.Spot.{Spot}
 use Rattle.table.specs.Moves.{cellAt, gainAt, edgeIn}
 
 -- z is the mark, or at most k in size.
@@ -55,11 +56,12 @@ pub record Bounded (t : List ℤ) (a n : ℕ) : Type 0 where
   pub at : (k : ℕ) → k < n → Sized (2 ^ 60) (cellAt t (a + k))
 
 -- r is the first cell from k on of the block at `a`, of m cells, that holds a worth, or m.
-pub record Occupied (t : List ℤ) (a m k r : ℕ) : Type 0 where
-  pub above : k ≤ r
-  pub below : r ≤ m
-  pub skips : (j : ℕ) → k ≤ j → j < r → ltZ mark (cellAt t (a + j)) ≡ false
-  pub holds : r < m → ltZ mark (cellAt t (a + r)) ≡ true
+pub record Occupied (t : List ℤ) (a m k : ℕ) (r : Spot) : Type 0 where
+  pub above : k ≤ r .cell
+  pub below : r .cell ≤ m
+  pub skips : (j : ℕ) → k ≤ j → j < r .cell → ltZ mark (cellAt t (a + j)) ≡ false
+  pub holds : r .cell < m → ltZ mark (cellAt t (a + r .cell)) ≡ true
+  pub is : r .cell < m → r .worth ≡ cellAt t (a + r .cell)
 
 -- Each edge leaves one of 16 places.
 pub record Sourced (es : List Edge) (count : ℕ) : Type 0 where
@@ -90,6 +92,15 @@ pub record Moving (t : List ℤ) (l : Layout) (n : ℕ) (cs : Clocks) : Type 0 w
   pub low : n < l .high
   pub inside : cellsIn l ≤ length t
   pub within : Within (l .radices) cs
+
+-- The worth v of a run of length n in place p can stay there.
+pub record Staying (t : List ℤ) (l : Layout) (g v : ℤ) (n p : ℕ) : Type 0 where
+  pub laid : Laid l
+  pub gain : natAbs g ≤ 8000000
+  pub worth : natAbs v ≤ 2 ^ 60
+  pub low : n < l .high
+  pub place : p < l .places
+  pub inside : cellsIn l ≤ length t
 
 -- The cells of the block at `at`, of length n and place p, can be moved.
 pub record Passing (t : List ℤ) (l : Layout) (g : ℤ) (n p at : ℕ) : Type 0 where

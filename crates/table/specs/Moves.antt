@@ -76,12 +76,12 @@ visitOf l w es count g n p at k cs t =
     (spreadOf l w es count n p (ticked (l .radices) cs) (weightingOf w .combine (cellAt t (at + k)) g) t)
     t
 
--- The same in two parts, as the code does it: the stay, and what is then sent along the edges.
-unfoldable pub stayOf : Layout → Weighing → (gain : ℤ) → (n p at k : ℕ) → Clocks → List ℤ → List ℤ
-stayOf l w g n p at k cs t =
-    moved l w (still p) (blockAt l (n + 1) 1 p) (ticked (l .radices) cs) (weightingOf w .combine (cellAt t (at + k)) g) t
+-- The same in two parts, as the code does it, of a cell that holds v: the stay, and what is then sent along the edges.
+unfoldable pub stayOf : Layout → Weighing → (gain : ℤ) → (n p : ℕ) → Clocks → (v : ℤ) → List ℤ → List ℤ
+stayOf l w g n p cs v t =
+    moved l w (still p) (blockAt l (n + 1) 1 p) (ticked (l .radices) cs) (weightingOf w .combine v g) t
 
-abbrev pub sentOf : Layout → Weighing → (gain : ℤ) → Clocks → (cell : ℤ) → Sent
+abbrev pub sentOf : Layout → Weighing → (gain : ℤ) → Clocks → (v : ℤ) → Sent
 sentOf l w g cs v = record { clocks = ticked (l .radices) cs; worth = weightingOf w .combine v g }
 
 -- The first m cells of the block.

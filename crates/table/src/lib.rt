@@ -34,7 +34,7 @@ ghost use Rattle.table.specs.Moves.{cellAt, cleared, offered, still, mov
 ghost use Rattle.table.specs.Moves.{placeOf, placesOf, rowOf, rowsOf, begun, tickOf, openOf};
 ghost use Rattle.table.specs.Reports.{toldMove, toldVisits, toldPass, toldPlace, toldPlaces, tellsAt, toldRow, toldOf};
 ghost use Rattle.table.specs.Asks.{Known, Ticking, Filed, Sourced, Linked, Edges, Moving, Passing, Placing, Ready, Rows};
-ghost use Rattle.table.specs.Asks.{Occupied};
+ghost use Rattle.table.specs.Asks.{Occupied, Staying};
 
 // What one tick gains in each place, by stage: just entered, or staying. MARK where the place cannot be stayed in.
 pub struct View {
@@ -153,7 +153,7 @@ struct Sent {
     worth: i64,
 }
 
-// The occupied cell k of the block at `at`, which has these clocks: its worth stays in p, and is then sent along edges.
+// A worth with these clocks, in p: a tick later it stays in p, and is then sent along edges.
 fn visit(
     table: &mut [i64],
     l: Layout,
@@ -161,18 +161,15 @@ fn visit(
     gain: i64,
     n: usize,
     p: usize,
-    at: usize,
-    k: usize,
     clocks: [u32; 4],
+    worth: i64,
 ) -> Sent
-    requires { ⌜ (Passing (now table) l gain n p at) × (ltZ mark gain ≡ true) × (k < l .block)
-        × (ltZ mark (cellAt (now table) (at + k)) ≡ true) ⌝ }
-    ensures { λ r. ⌜ r ≡ sentOf l w gain clocks (cellAt (now (table .entry)) (at + k)) ⌝ }
-    ensures { λ _. ⌜ now (table .exit) ≡ stayOf l w gain n p at k clocks (now (table .entry)) ⌝ }
+    requires { ⌜ Staying (now table) l gain worth n p ⌝ }
+    ensures { λ r. ⌜ r ≡ sentOf l w gain clocks worth ⌝ }
+    ensures { λ _. ⌜ now (table .exit) ≡ stayOf l w gain n p clocks worth (now (table .entry)) ⌝ }
 {
-    let v = table[at + k];
     let ticked = tick_clocks(l, clocks);
-    let grown = combine(w, v, gain);
+    let grown = combine(w, worth, gain);
     let e = stay(p as u8);
     let to = block_at(l, n + 1, 1, p);
     turn(table, l, w, e, to, ticked, grown);
@@ -182,8 +179,14 @@ fn visit(
     }
 }
 
-// The first occupied cell of the block at `at` from cell k on, or `size`.
-fn occupied(table: &[i64], at: usize, k: usize, size: usize) -> usize
+// An occupied cell of a block and its worth; or the block's size.
+struct Spot {
+    cell: usize,
+    worth: i64,
+}
+
+// The first occupied cell of the block at `at` from cell k on: each cell is looked at once.
+fn occupied(table: &[i64], at: usize, k: usize, size: usize) -> Spot
     requires { ⌜ (at + size ≤ length (now table)) × (k ≤ size) ⌝ }
     ensures { λ r. ⌜ Occupied (now (table .entry)) at size k r ⌝ }
 {
@@ -191,11 +194,14 @@ fn occupied(table: &[i64], at: usize, k: usize, size: usize) -> usize
     while i < size {
         let v = table[at + i];
         if MARK < v {
-            return i;
+            return Spot { cell: i, worth: v };
         }
         i += 1;
     }
-    i
+    Spot {
+        cell: size,
+        worth: MARK,
+    }
 }
 
 // All occupied cells of the block, from the first one on, each with its clocks, and from each all edges out of p. The two
@@ -212,7 +218,7 @@ fn visits(
     n: usize,
     p: usize,
     at: usize,
-    start: usize,
+    start: Spot,
     r: Report,
 ) -> Report
     requires { ⌜ (Passing (now table) l gain n p at) × (Edges l edges count (now links)) × (ltZ mark gain ≡ true)
@@ -225,10 +231,12 @@ fn visits(
     let mut best = r;
     let mut last: usize = 0;
     let mut clocks: [u32; 4] = [0, 0, 0, 0];
-    let mut k = start;
-    while k < size {
+    let mut spot = start;
+    while spot.cell < size {
+        let k = spot.cell;
+        let v = spot.worth;
         let here = clocks_to(l, clocks, last, k);
-        let sent = visit(table, l, w, gain, n, p, at, k, here);
+        let sent = visit(table, l, w, gain, n, p, here, v);
         let ticked = sent.clocks;
         let worth = sent.worth;
         let mut i = first;
@@ -239,7 +247,7 @@ fn visits(
         }
         last = k;
         clocks = here;
-        k = occupied(table, at, last + 1, size);
+        spot = occupied(table, at, last + 1, size);
     }
     best
 }
@@ -265,7 +273,7 @@ fn pass(
 {
     if MARK < gain {
         let start = occupied(table, at, 0, l.block);
-        if start < l.block {
+        if start.cell < l.block {
             return visits(
                 table,
                 l,

@@ -45,7 +45,7 @@ returns c = let l = c .before .before .before .loop in
     let v = getD (a .table .now) (a .at + l .i) (pos 0) in
     let p : toZ w64 (ofZ w64 v) ≡ v = toZ-ofZ {w = w64} {z = v} (record { sfits = c .before .v .given }) in
     let m : ltZ mark v ≡ true = rw p at (c .if1 .taken) in
-    record { above = l .inv .0; below = l .inv .1 .0; skips = l .inv .1 .1; holds = λ h. m }
+    record { above = l .inv .0; below = l .inv .1 .0; skips = l .inv .1 .1; holds = λ h. m; is = λ h. p }
 
 add-i : tie.Need-add-i Inv-loop μ-loop
 add-i c = omega arith
@@ -63,7 +63,9 @@ loop-again c = let l = c .before .before .before .loop in
 
 returns-2 : tie.Need-returns-2 Inv-loop μ-loop
 returns-2 c = let l = c .before .loop in
-    record { above = l .inv .0; below = l .inv .1 .0; skips = l .inv .1 .1; holds = λ h. absurd (omega arith) }
+    let a = c .before .before .args in
+    let low = l .inv .0 in
+    record { above = omega arith; below = omega arith; skips = λ j x y. l .inv .1 .1 j x (omega arith); holds = λ h. absurd (omega arith); is = λ h. absurd (omega arith) }
 
 pub occupied-spec : {M : Type 1} → statement M
 occupied-spec =

@@ -18,18 +18,18 @@ occupied-requires c κs = let st = c .before .before in
     (omega arith, zero-le)
 
 visits-requires : tie.Need-visits-requires
-visits-requires c κs = let st = c .before .before .before .before .before .before in
+visits-requires c κs = let st = c .before .before .before .before .before .before .before in
     let q = toZ-ofZ (st .fits .gain) in
-    (rw q (st .pre .0), st .pre .1, c .before .before .before .before .before .if1 .taken, c .before .before .before .occupied .ensures)
+    (rw q (st .pre .0), st .pre .1, c .before .before .before .before .before .before .if1 .taken, c .before .before .before .before .occupied .ensures)
 
 same-length : tie.Need-same-length
 same-length c = search needs
 
 returns : tie.Need-returns
-returns c = let st = c .before .before .before .before .before .before .before .before in
+returns c = let st = c .before .before .before .before .before .before .before .before .before in
     let a = st .args in
     let q = toZ-ofZ (st .fits .gain) in
-    let m = rw q at (c .before .before .before .before .before .before .before .if1 .taken) in
+    let m = rw q at (c .before .before .before .before .before .before .before .before .if1 .taken) in
     (told-pass (a .l) (a .w) (a .edges) (a .count) (a .tells .now) (a .gain) (a .n) (a .p) (a .at) (a .table .now) (a .r) _ m (rw q at (c .before .visits .ensures .0)), pass-is (a .l) (a .w) (a .edges) (a .count) (a .gain) (a .n) (a .p) (a .at) (a .table .now) _ m (rw q at (c .before .visits .ensures .1)))
 
 same-length-2 : tie.Need-same-length-2
@@ -37,10 +37,10 @@ same-length-2 c = search needs
 
 returns-2 : tie.Need-returns-2
 unfolding each
-returns-2 c = let st = c .before .before .before .before .before in
+returns-2 c = let st = c .before .before .before .before .before .before in
     let a = st .args in
-    let m = rw (toZ-ofZ (st .fits .gain)) at (c .before .before .before .before .if1 .taken) in
-    let o = c .before .before .occupied .ensures in
+    let m = rw (toZ-ofZ (st .fits .gain)) at (c .before .before .before .before .before .if1 .taken) in
+    let o = c .before .before .before .occupied .ensures in
     let up = o .below in
     (told-pass (a .l) (a .w) (a .edges) (a .count) (a .tells .now) (a .gain) (a .n) (a .p) (a .at) (a .table .now) (a .r) _ m (told-skip (a .l) (a .w) (a .edges) (a .count) (a .tells .now) (a .gain) (a .n) (a .p) (a .at) (a .table .now) 0 (a .l .block) (a .r) zero-le (λ j x y. o .skips j x (omega arith))), pass-is (a .l) (a .w) (a .edges) (a .count) (a .gain) (a .n) (a .p) (a .at) (a .table .now) _ m (visits-skip (a .l) (a .w) (a .edges) (a .count) (a .gain) (a .n) (a .p) (a .at) 0 (a .l .block) (a .table .now) zero-le (λ j x y. o .skips j x (omega arith))))
 
