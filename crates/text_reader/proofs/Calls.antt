@@ -12,10 +12,12 @@ use mir.Val.{Val, WT, hasTy, vint, vbool}
 use base.Logic.{SProp, ent, snd∗, exE}
 use base.Fml.{Lft, Share, Fml, ftrue, flft}
 use prog.Memory.{Memory}
-use prog.Routine.{Routine}
+use prog.Model.{Model}
+use prog.Routine.{Routine, Env as Keys}
 use prog.Wp.{Heap, Env, exits, Calls, Loops}
 use ghost.Atoms.{Atoms, sem}
 use contract.Monad.{Fun, fact}
+use contract.Running.{Running, GhostRules, tables}
 use types.Kit.{Given, Item, Post, post, Seq, runs, prop, ‵, _⊛_, ⋆, _$_, _∵_, !, qed, move, join, fjoin, frame, done}
 use types.Run.{Opd, first, branches, skips, jumps}
 use denote.Laws.{Is}
@@ -25,15 +27,25 @@ use denote.Ref.{NamedLft, now}
 use denote.Signature.{namedLft}
 use denote.Steps.{owned, nothing}
 use denote.Struct.Laws as LL
-use denote.Triple.Statement.{Contract}
+use denote.Triple.Statement.{Contract, Triple}
 use denote.Triple.Spec.{tripleOf}
+use denote.Triple.Table.{cited}
 use denote.Triple.Clauses.{ensured, lasts}
 use Rattle.text_reader.specs.declared.Reader.{Reader}
 use Rattle.text_reader.proofs.Reader as T
 use Rattle.text_reader.proofs.Reader.Laws as T′
 use Rattle.text_reader.proofs.unread as unread
+use Rattle.text_reader.proofs.unread.Symbol as unread-def
+use Rattle.text_reader.proofs.unread.Symbol.{name as #unread}
+use Rattle.text_reader.proofs.unread.Met as unread-thm
 use Rattle.text_reader.proofs.standing as standing
+use Rattle.text_reader.proofs.standing.Symbol as standing-def
+use Rattle.text_reader.proofs.standing.Symbol.{name as #standing}
+use Rattle.text_reader.proofs.standing.Met as standing-thm
 use Rattle.text_reader.proofs.moved as moved
+use Rattle.text_reader.proofs.moved.Symbol as moved-def
+use Rattle.text_reader.proofs.moved.Symbol.{name as #moved}
+use Rattle.text_reader.proofs.moved.Met as moved-thm
 
 -- the test of a `while`, whichever way it comes out
 module _ {M : Type 1} {𝓤 : URA M} {H : Heap 𝓤} {A : Atoms 𝓤} {K : Type 0} {W : Given 𝓤 H A} {Γ : List (Item 𝓤)} {E : Env 𝓤 H} {C : Calls 𝓤 H} {Λ : Loops 𝓤 H} {q : Post 𝓤 H} where
@@ -50,6 +62,17 @@ module _ {M : Type 1} (𝓤 : URA M) (H : Heap 𝓤) (A : Atoms 𝓤) (mem : Mem
 
   abbrev pub Moved : Contract 𝓤
   Moved = tripleOf 𝓤 H A moved.signature (moved.spec 𝓤 H A mem run)
+
+-- the theorems, at the keys by which a caller's code names the functions
+module _ {M : Type 1} (𝓤 : URA M) (H : Heap 𝓤) (𝓜 : Model 𝓤 H) (𝓖 : GhostRules 𝓤 H) (𝓡 : Running 𝓤 H 𝓜) (γ : Keys) where
+  pub unread-known : γ #unread ≡ unread-def.routine → Triple 𝓤 (tables 𝓤 H 𝓜 𝓡 γ .C #unread) (Unread 𝓤 H (𝓖 .A) (𝓜 .mem) (𝓡 .run))
+  unread-known e = cited 𝓤 H (Unread 𝓤 H (𝓖 .A) (𝓜 .mem) (𝓡 .run)) 𝓜 𝓡 γ #unread unread-def.routine e (unread-thm.met 𝓤 H 𝓜 𝓖 𝓡)
+
+  pub standing-known : γ #standing ≡ standing-def.routine → Triple 𝓤 (tables 𝓤 H 𝓜 𝓡 γ .C #standing) (Standing 𝓤 H (𝓖 .A) (𝓜 .mem) (𝓡 .run))
+  standing-known e = cited 𝓤 H (Standing 𝓤 H (𝓖 .A) (𝓜 .mem) (𝓡 .run)) 𝓜 𝓡 γ #standing standing-def.routine e (standing-thm.met 𝓤 H 𝓜 𝓖 𝓡)
+
+  pub moved-known : γ #moved ≡ moved-def.routine → Triple 𝓤 (tables 𝓤 H 𝓜 𝓡 γ .C #moved) (Moved 𝓤 H (𝓖 .A) (𝓜 .mem) (𝓡 .run))
+  moved-known e = cited 𝓤 H (Moved 𝓤 H (𝓖 .A) (𝓜 .mem) (𝓡 .run)) 𝓜 𝓡 γ #moved moved-def.routine e (moved-thm.met 𝓤 H 𝓜 𝓖 𝓡)
 
 -- what a reader with the machine value u owns
 abbrev pub Own : Lft → Reader → Val → Fml

@@ -43,7 +43,7 @@ use Rattle.pattern_read.specs.Turn.{turned}
 use Rattle.text_reader.specs.declared.Reader.{Reader}
 use Rattle.pattern_read.specs.declared.State.{State}
 use Rattle.text_reader.proofs.Apart.{apart}
-use Rattle.text_reader.proofs.Calls.{Standing, Own, twice, typed-r, to-standing, goes-standing, standing-said}
+use Rattle.text_reader.proofs.Calls.{Standing, standing-known, Own, twice, typed-r, to-standing, goes-standing, standing-said}
 use Rattle.text_reader.proofs.Reader as T
 use Rattle.text_reader.proofs.Reader.Laws as T′
 use Rattle.pattern_read.specs.declared.Stage.{Stage}
@@ -55,9 +55,7 @@ use Rattle.pattern.proofs.Pattern.Laws as P′
 use Rattle.pattern_read.proofs.State as S
 use Rattle.pattern_read.proofs.State.Laws as S′
 use Rattle.text_reader.proofs.standing as standing
-use Rattle.text_reader.proofs.standing.Symbol as standing-def
 use Rattle.text_reader.proofs.standing.Symbol.{name as #standing}
-use Rattle.text_reader.proofs.standing.Met as standing-thm
 use Rattle.pattern_read.proofs.turn as turn
 use Rattle.pattern_read.proofs.turn.Symbol as turn-def
 use Rattle.pattern_read.proofs.turn.Symbol.{name as #turn}
@@ -189,5 +187,5 @@ next-line-spec 𝓤 H 𝓜 𝓖 𝓡 =
     entered 𝓤 H (tripleOf 𝓤 H (𝓖 .A) next-line.signature (next-line.spec 𝓤 H (𝓖 .A) (𝓜 .mem) (𝓡 .run)))
     (tables 𝓤 H 𝓜 𝓡 code.env .C) (tables 𝓤 H 𝓜 𝓡 code.env .Λ) #next-line code.function (code.unfolded 𝓤 H 𝓜 𝓡)
     (next-line-meets 𝓤 H (𝓖 .A) (givenOf 𝓤 H 𝓜 𝓖) (𝓜 .mem) (𝓡 .run) (tablesOf 𝓤 H 𝓜 (tables 𝓤 H 𝓜 𝓡 code.env))
-    (cited 𝓤 H (Standing 𝓤 H (𝓖 .A) (𝓜 .mem) (𝓡 .run)) 𝓜 𝓡 code.env #standing standing-def.routine code.calls-text-reader·standing (standing-thm.met 𝓤 H 𝓜 𝓖 𝓡))
+    (standing-known 𝓤 H 𝓜 𝓖 𝓡 code.env code.calls-text-reader·standing)
     (cited 𝓤 H (Turn 𝓤 H (𝓖 .A) (𝓜 .mem) (𝓡 .run)) 𝓜 𝓡 code.env #turn turn-def.routine code.calls-pattern-read·turn (turn-thm.met 𝓤 H 𝓜 𝓖 𝓡)))

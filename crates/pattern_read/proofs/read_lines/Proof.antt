@@ -48,7 +48,7 @@ use denote.Exit.{yes}
 use denote.Triple.Clauses.{ensured, lasts}
 use Rattle.pattern_text.specs.Text.{Answer, linesOf, readLines}
 use Rattle.text_reader.specs.declared.Reader.{Reader}
-use Rattle.text_reader.proofs.Calls.{decides, Unread, Moved, Own, twice, typed-r, to-unread, goes-unread, unread-said, to-moved, goes-moved, moved-said}
+use Rattle.text_reader.proofs.Calls.{decides, Unread, Moved, unread-known, moved-known, Own, twice, typed-r, to-unread, goes-unread, unread-said, to-moved, goes-moved, moved-said}
 use Rattle.text_reader.proofs.Reader as T
 use Rattle.text_reader.proofs.Reader.Laws as T′
 use Rattle.pattern.specs.declared.Pattern.{Pattern}
@@ -68,13 +68,9 @@ use Rattle.text_reader.proofs.reader_at.Symbol as make-def
 use Rattle.text_reader.proofs.reader_at.Symbol.{name as #make}
 use Rattle.text_reader.proofs.reader_at.Met as make-thm
 use Rattle.text_reader.proofs.unread as unread
-use Rattle.text_reader.proofs.unread.Symbol as unread-def
 use Rattle.text_reader.proofs.unread.Symbol.{name as #unread}
-use Rattle.text_reader.proofs.unread.Met as unread-thm
 use Rattle.text_reader.proofs.moved as moved
-use Rattle.text_reader.proofs.moved.Symbol as moved-def
 use Rattle.text_reader.proofs.moved.Symbol.{name as #moved}
-use Rattle.text_reader.proofs.moved.Met as moved-thm
 use Rattle.pattern_read.proofs.start as start
 use Rattle.pattern_read.proofs.start.Symbol as start-def
 use Rattle.pattern_read.proofs.start.Symbol.{name as #start}
@@ -392,6 +388,6 @@ read-lines-spec 𝓤 H 𝓜 𝓖 𝓡 =
     (lines-meets 𝓤 H (𝓖 .A) W (𝓜 .mem) (𝓡 .run) 𝓣 (fmOf 𝓤 H (W .laws) 𝓣)
     (cited 𝓤 H (Make 𝓤 H (𝓖 .A) (𝓜 .mem) (𝓡 .run)) 𝓜 𝓡 code.env #make make-def.routine code.calls-text-reader·reader-at (make-thm.met 𝓤 H 𝓜 𝓖 𝓡))
     (cited 𝓤 H (Start 𝓤 H (𝓖 .A) (𝓜 .mem) (𝓡 .run)) 𝓜 𝓡 code.env #start start-def.routine code.calls-pattern-read·start (start-thm.met 𝓤 H 𝓜 𝓖 𝓡))
-    (cited 𝓤 H (Unread 𝓤 H (𝓖 .A) (𝓜 .mem) (𝓡 .run)) 𝓜 𝓡 code.env #unread unread-def.routine code.calls-text-reader·unread (unread-thm.met 𝓤 H 𝓜 𝓖 𝓡))
+    (unread-known 𝓤 H 𝓜 𝓖 𝓡 code.env code.calls-text-reader·unread)
     (cited 𝓤 H (Next 𝓤 H (𝓖 .A) (𝓜 .mem) (𝓡 .run)) 𝓜 𝓡 code.env #next next-def.routine code.calls-pattern-read·next-line (next-thm.met 𝓤 H 𝓜 𝓖 𝓡))
-    (cited 𝓤 H (Moved 𝓤 H (𝓖 .A) (𝓜 .mem) (𝓡 .run)) 𝓜 𝓡 code.env #moved moved-def.routine code.calls-text-reader·moved (moved-thm.met 𝓤 H 𝓜 𝓖 𝓡)))
+    (moved-known 𝓤 H 𝓜 𝓖 𝓡 code.env code.calls-text-reader·moved))

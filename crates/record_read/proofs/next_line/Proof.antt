@@ -41,15 +41,13 @@ use Rattle.record_read.specs.Line.{lineAt}
 use Rattle.text_reader.specs.declared.Reader.{Reader}
 use Rattle.record_read.specs.declared.LineRead.{LineRead}
 use Rattle.text_reader.proofs.Apart.{apart}
-use Rattle.text_reader.proofs.Calls.{Standing, Own, twice, typed-r, to-standing, goes-standing, standing-said}
+use Rattle.text_reader.proofs.Calls.{Standing, standing-known, Own, twice, typed-r, to-standing, goes-standing, standing-said}
 use Rattle.text_reader.proofs.Reader as T
 use Rattle.text_reader.proofs.Reader.Laws as T′
 use Rattle.record_read.proofs.LineRead as S
 use Rattle.record_read.proofs.LineRead.Laws as S′
 use Rattle.text_reader.proofs.standing as standing
-use Rattle.text_reader.proofs.standing.Symbol as standing-def
 use Rattle.text_reader.proofs.standing.Symbol.{name as #standing}
-use Rattle.text_reader.proofs.standing.Met as standing-thm
 use Rattle.record_read.proofs.line_at as line
 use Rattle.record_read.proofs.line_at.Symbol as line-def
 use Rattle.record_read.proofs.line_at.Symbol.{name as #line-at}
@@ -156,5 +154,5 @@ next-line-spec 𝓤 H 𝓜 𝓖 𝓡 =
     entered 𝓤 H (tripleOf 𝓤 H (𝓖 .A) next-line.signature (next-line.spec 𝓤 H (𝓖 .A) (𝓜 .mem) (𝓡 .run)))
     (tables 𝓤 H 𝓜 𝓡 code.env .C) (tables 𝓤 H 𝓜 𝓡 code.env .Λ) #next-line code.function (code.unfolded 𝓤 H 𝓜 𝓡)
     (next-line-meets 𝓤 H (𝓖 .A) (givenOf 𝓤 H 𝓜 𝓖) (𝓜 .mem) (𝓡 .run) (tablesOf 𝓤 H 𝓜 (tables 𝓤 H 𝓜 𝓡 code.env))
-    (cited 𝓤 H (Standing 𝓤 H (𝓖 .A) (𝓜 .mem) (𝓡 .run)) 𝓜 𝓡 code.env #standing standing-def.routine code.calls-text-reader·standing (standing-thm.met 𝓤 H 𝓜 𝓖 𝓡))
+    (standing-known 𝓤 H 𝓜 𝓖 𝓡 code.env code.calls-text-reader·standing)
     (cited 𝓤 H (LineAt 𝓤 H (𝓖 .A) (𝓜 .mem) (𝓡 .run)) 𝓜 𝓡 code.env #line-at line-def.routine code.calls-record-read·line-at (line-thm.met 𝓤 H 𝓜 𝓖 𝓡)))
