@@ -198,6 +198,8 @@ answers=$build/answers.txt
 if "$build/generate" "$cases" >"$build/kinds.txt"; then pass; else fail "the generator"; fi
 if "$build/generate" "$build/again.txt" >/dev/null && cmp -s "$cases" "$build/again.txt"; then pass; else fail "the generator gives other cases each time"; fi
 rm -f "$build/again.txt"
+# each of the generator's kinds occurs, as often as ever
+if cmp -s "$here/kinds.txt" "$build/kinds.txt"; then pass; else fail "the generator's kinds are not those of kinds.txt"; fi
 if "$build/scorer" --many "$cases" >"$answers"; then pass; else fail "the scorer on the cases"; fi
 count=$(tail -n 1 "$build/kinds.txt" | awk '{ print $1 }')
 if [ "$count" -ge 3000 ] && [ "$(grep -c '^===' "$answers")" = "$count" ]; then pass; else fail "$count cases"; fi
