@@ -1,2 +1,4 @@
--- Laws: what a host program written in C is told.
+-- Laws: what a host program written in C is told, and what its calls leave.
 pub mod NumberLaws
+pub mod CallLaws
+pub mod Claims

@@ -1,10 +1,42 @@
-// What a host program written in C calls (document 01, 'Monitor tables'): the pattern check and the cell count, with a
-// byte slice, giving plain numbers. include/bench_margin.h declares them for C.
+// What a host program written in C calls: the pattern check and the cell count (document 01, 'Monitor tables'); opening,
+// feeding, pricing and the best of a record (document 01, 'Operations and refusals'). A pattern is given by its text, the
+// monitor's state is a lent slice of numbers (crate state_slice), and answers are plain numbers or structs of numbers.
+// include/bench_margin.h declares all of them for C.
+mod calls;
+
+use best::Found;
+use best::best;
+use calls::cause_number;
+use calls::feed_pattern;
+use calls::open_pattern;
 use pattern::Counted;
 use pattern_read::Outcome;
+use price::Priced;
+use price::price;
 ghost use mathlib.Core.Path.{_≡_};
 ghost use Rattle.pattern_text.specs.Text.{readOf};
+ghost use Rattle.feed.specs.After.{callOf};
 ghost use Rattle.host.specs.Numbers.{outcomeNumber, countedCells, checkOf, countOf};
+ghost use Rattle.host.specs.Calls.{openedNumber, openedState, openedFirst, openedSecond};
+ghost use Rattle.host.specs.Calls.{fedNumber, fedState, fedFirst, fedSecond, fedScores, fedLengths};
+ghost use Rattle.host.specs.Calls.{priceTold, runPrice, bestTold, recordBest, recordFirst, recordSecond};
+
+// What a run is worth; 0 beside a refusal.
+#[repr(C)]
+pub struct RunPrice {
+    pub refusal: u32,
+    pub score: i64,
+}
+
+// The best run of a record: `found` is 1, or 0 if there is none; then, and beside a refusal, the rest is 0.
+#[repr(C)]
+pub struct RecordBest {
+    pub refusal: u32,
+    pub found: u32,
+    pub end: u32,
+    pub begin: u32,
+    pub score: i64,
+}
 
 // 0 if the text was accepted, or the refusal's number.
 fn outcome_number(outcome: Outcome) -> u32
@@ -12,7 +44,7 @@ fn outcome_number(outcome: Outcome) -> u32
 {
     match outcome {
         Outcome::Accepted => 0,
-        Outcome::Refused(cause) => pattern::number(cause) as u32,
+        Outcome::Refused(cause) => cause_number(cause),
     }
 }
 
@@ -44,4 +76,163 @@ pub extern "C" fn pattern_cells(text: &[u8]) -> u64
     let reading = pattern_read::read(text);
     let p = reading.pattern;
     counted_cells(pattern::cells(p))
+}
+
+// Opening: 1 to 5, 11, then 12 for a state's slice of fewer than 9 entries.
+#[no_mangle]
+pub extern "C" fn monitor_open(
+    text: &[u8],
+    state: &mut [i64],
+    first: &mut [i64],
+    second: &mut [i64],
+) -> u32
+    ensures { λ r. ⌜ r ≡ openedNumber (readOf (now (text .entry)))
+        (now (state .entry)) (now (first .entry)) (now (second .entry)) ⌝ }
+    ensures { λ _. ⌜ now (state .exit) ≡ openedState (readOf (now (text .entry)))
+        (now (state .entry)) (now (first .entry)) (now (second .entry)) ⌝ }
+    ensures { λ _. ⌜ now (first .exit) ≡ openedFirst (readOf (now (text .entry)))
+        (now (state .entry)) (now (first .entry)) (now (second .entry)) ⌝ }
+    ensures { λ _. ⌜ now (second .exit) ≡ openedSecond (readOf (now (text .entry)))
+        (now (state .entry)) (now (first .entry)) (now (second .entry)) ⌝ }
+{
+    let reading = pattern_read::read(text);
+    let p = reading.pattern;
+    let outcome = reading.outcome;
+    match outcome {
+        Outcome::Accepted => open_pattern(p, state, first, second),
+        Outcome::Refused(cause) => cause_number(cause),
+    }
+}
+
+// Feeding a piece: 1 to 5, then 12, 11, 8, 13, 14, 6.
+#[no_mangle]
+pub extern "C" fn monitor_feed(
+    text: &[u8],
+    state: &mut [i64],
+    first: &mut [i64],
+    second: &mut [i64],
+    duration: u32,
+    values: &[i32],
+    scores: &mut [i64],
+    lengths: &mut [u32],
+) -> u32
+    ensures { λ r. ⌜ r ≡ fedNumber (readOf (now (text .entry))) (now (state .entry)) (now (first .entry)) (now (second .entry))
+        (callOf duration (now (values .entry)) (now (scores .entry)) (now (lengths .entry))) ⌝ }
+    ensures { λ _. ⌜ now (state .exit)
+        ≡ fedState (readOf (now (text .entry))) (now (state .entry)) (now (first .entry)) (now (second .entry))
+        (callOf duration (now (values .entry)) (now (scores .entry)) (now (lengths .entry))) ⌝ }
+    ensures { λ _. ⌜ now (first .exit)
+        ≡ fedFirst (readOf (now (text .entry))) (now (state .entry)) (now (first .entry)) (now (second .entry))
+        (callOf duration (now (values .entry)) (now (scores .entry)) (now (lengths .entry))) ⌝ }
+    ensures { λ _. ⌜ now (second .exit)
+        ≡ fedSecond (readOf (now (text .entry))) (now (state .entry)) (now (first .entry)) (now (second .entry))
+        (callOf duration (now (values .entry)) (now (scores .entry)) (now (lengths .entry))) ⌝ }
+    ensures { λ _. ⌜ now (scores .exit)
+        ≡ fedScores (readOf (now (text .entry))) (now (state .entry)) (now (first .entry)) (now (second .entry))
+        (callOf duration (now (values .entry)) (now (scores .entry)) (now (lengths .entry))) ⌝ }
+    ensures { λ _. ⌜ now (lengths .exit)
+        ≡ fedLengths (readOf (now (text .entry))) (now (state .entry)) (now (first .entry)) (now (second .entry))
+        (callOf duration (now (values .entry)) (now (scores .entry)) (now (lengths .entry))) ⌝ }
+{
+    let reading = pattern_read::read(text);
+    let p = reading.pattern;
+    let outcome = reading.outcome;
+    match outcome {
+        Outcome::Accepted => {
+            feed_pattern(p, state, first, second, duration, values, scores, lengths)
+        }
+        Outcome::Refused(cause) => cause_number(cause),
+    }
+}
+
+// A price as the host is told it.
+fn price_told(answer: Priced) -> RunPrice
+    ensures { λ r. ⌜ r ≡ priceTold answer ⌝ }
+{
+    match answer {
+        Priced::Score(score) => RunPrice {
+            refusal: 0,
+            score: score,
+        },
+        Priced::Refused(cause) => RunPrice {
+            refusal: cause_number(cause),
+            score: 0,
+        },
+    }
+}
+
+// Pricing a run: 1 to 5, then 8, 9, 10. Nothing lent is written.
+#[no_mangle]
+pub extern "C" fn run_price(
+    text: &[u8],
+    durations: &[u32],
+    values: &[i32],
+    begin: u32,
+    edges: &[u32],
+    stays: &[u32],
+) -> RunPrice
+    ensures { λ r. ⌜ r ≡ runPrice (readOf (now (text .entry))) (now (durations .entry)) (now (values .entry)) begin
+        (now (edges .entry)) (now (stays .entry)) ⌝ }
+{
+    let reading = pattern_read::read(text);
+    let p = reading.pattern;
+    let outcome = reading.outcome;
+    match outcome {
+        Outcome::Accepted => price_told(price(p, durations, values, begin, edges, stays)),
+        Outcome::Refused(cause) => price_told(Priced::Refused(cause)),
+    }
+}
+
+// The best as the host is told it.
+fn best_told(answer: Found) -> RecordBest
+    ensures { λ r. ⌜ r ≡ bestTold answer ⌝ }
+{
+    match answer {
+        Found::Run(end, begin, score) => RecordBest {
+            refusal: 0,
+            found: 1,
+            end: end,
+            begin: begin,
+            score: score,
+        },
+        Found::Nothing => RecordBest {
+            refusal: 0,
+            found: 0,
+            end: 0,
+            begin: 0,
+            score: 0,
+        },
+        Found::Refused(cause) => RecordBest {
+            refusal: cause_number(cause),
+            found: 0,
+            end: 0,
+            begin: 0,
+            score: 0,
+        },
+    }
+}
+
+// The best of a record: 1 to 5, then 8, 11.
+#[no_mangle]
+pub extern "C" fn record_best(
+    text: &[u8],
+    durations: &[u32],
+    values: &[i32],
+    first: &mut [i64],
+    second: &mut [i64],
+) -> RecordBest
+    ensures { λ r. ⌜ r ≡ recordBest (readOf (now (text .entry))) (now (durations .entry)) (now (values .entry))
+        (now (first .entry)) (now (second .entry)) ⌝ }
+    ensures { λ _. ⌜ now (first .exit) ≡ recordFirst (readOf (now (text .entry))) (now (durations .entry)) (now (values .entry))
+        (now (first .entry)) (now (second .entry)) ⌝ }
+    ensures { λ _. ⌜ now (second .exit) ≡ recordSecond (readOf (now (text .entry))) (now (durations .entry)) (now (values .entry))
+        (now (first .entry)) (now (second .entry)) ⌝ }
+{
+    let reading = pattern_read::read(text);
+    let p = reading.pattern;
+    let outcome = reading.outcome;
+    match outcome {
+        Outcome::Accepted => best_told(best(p, durations, values, first, second)),
+        Outcome::Refused(cause) => best_told(Found::Refused(cause)),
+    }
 }

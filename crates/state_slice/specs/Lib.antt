@@ -1,0 +1,3 @@
+-- Definitions: the state that a slice holds; claims: what is written is read back.
+pub mod Slice
+pub mod Claims
