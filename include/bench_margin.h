@@ -4,13 +4,26 @@
  *
  *     cc -Iinclude program.c target/staticlib/libhost.a
  *
- * A text is a pointer to its first byte and the number of its bytes. It need not end in a zero byte, and a zero byte in
- * it counts like any other. The functions read those bytes and no others, keep no pointer, and write nothing but their
- * own part of the stack (24 kilobytes were seen), so any number of threads may call them at a time. The caller sees to it
- * that
- *   - `text` is not null, also where `length` is 0, and `length` bytes can be read there;
- *   - no other thread writes them during the call.
- */
+ * examples/c is a program that runs a bench with it. In short:
+ *
+ *     cells = pattern_cells(text, length);                      0: the text is refused, pattern_check says why
+ *     first = malloc(cells * sizeof *first);  second = ...      two tables of that many cells
+ *     monitor_open(text, length, state, MONITOR_STATE_LENGTH, first, cells, second, cells);
+ *     monitor_feed(text, length, state, MONITOR_STATE_LENGTH, first, cells, second, cells,
+ *                  ticks, values, channels, scores, ticks, lengths, ticks);      once for each piece as it arrives
+ *
+ * What holds of every function
+ *   - A slice is a pointer to its first element and the number of its elements. The pointer is not null, also where the
+ *     number is 0, and that many elements can be read there (and written, where it is not const).
+ *   - A text is a slice of bytes. It need not end in a zero byte, and a zero byte in it counts like any other.
+ *   - Slices that are written during a call do not overlap each other or any other slice of the call, and no other thread
+ *     reads or writes them during the call. Nobody writes the others during the call.
+ *   - Nothing is kept between calls, nothing is allocated, and nothing is written but what is said below and the
+ *     function's own part of the stack (28 kilobytes were seen; tests/hostile measures it), so any number of threads
+ *     may call at a time.
+ *   - Every content of the slices is answered. A call is done (0), or it is refused: then its number says the first cause
+ *     in the order that is given for the function, nothing lent is altered, and numbers beside the refusal are 0.
+ *   - The pattern is read anew from its text at each call. */
 #ifndef BENCH_MARGIN_H
 #define BENCH_MARGIN_H
 
@@ -21,23 +34,109 @@
 extern "C" {
 #endif
 
-/* Why a pattern text is refused. On the first faulty line the causes are tried in the order 2, 4, 3, 5. */
+/* Why a call is refused. On the first faulty line of a text the causes are tried in the order 2, 4, 3, 5. */
 enum {
     PATTERN_ACCEPTED = 0,
-    PATTERN_TEXT_TOO_LONG = 1, /* over 8,192 bytes */
+    PATTERN_TEXT_TOO_LONG = 1, /* over PATTERN_TEXT_MAX bytes */
     PATTERN_BROKEN_FORM = 2,   /* the form is broken: also empty text, a missing line feed, a line of the wrong kind,
                                   no place at all */
     PATTERN_OUT_OF_RANGE = 3,  /* a number outside its range */
     PATTERN_TOO_MANY = 4,      /* a place, edge, test or guard too many */
-    PATTERN_UNKNOWN_INDEX = 5  /* an index that the pattern lacks, or a reset not above the one before it */
+    PATTERN_UNKNOWN_INDEX = 5, /* an index that the pattern lacks, or a reset not above the one before it */
+
+    CALL_DONE = 0,
+    REPORTS_TOO_SHORT = 6, /* a report slice shorter than the duration */
+    PATTERN_UNSOUND = 7,   /* a pattern value that no text reads as: never answered here, where a pattern is a text */
+    RECORD_BROKEN = 8,     /* a record or a piece breaks its rules, or slices disagree in length */
+    RUN_BROKEN = 9,        /* edges and stays differ in length, are none or over RUN_STEPS_MAX, or the begin is not inside
+                              the record */
+    RUN_IMPOSSIBLE = 10,   /* edges and stays are not a run, or pass the record's end */
+    TABLE_TOO_SHORT = 11,  /* a table shorter than the cells needed */
+    STATE_BROKEN = 12,     /* a state that no monitor can be in, or a slice too short for one */
+    TOO_MANY_TICKS = 13,   /* the ticks in all would pass TICKS_MAX */
+    CELL_BROKEN = 14       /* a needed cell of the first table is neither CELL_MARK nor within CELL_MAX of 0 */
 };
+
+#define PATTERN_TEXT_MAX 8192                  /* bytes of a pattern text */
+#define PATTERN_CHANNELS_MAX 8                 /* channels of a pattern */
+#define MONITOR_STATE_LENGTH 9                 /* entries of a monitor's state */
+#define PIECE_TICKS_MAX UINT32_C(65535)        /* ticks of a piece that is fed; longer ones are fed in parts */
+#define TICKS_MAX UINT32_C(2147483647)         /* ticks of a record, and of all pieces that were fed */
+#define RECORD_PIECES_MAX 4096                 /* pieces of a record */
+#define RUN_STEPS_MAX 4095                     /* steps of a run, and ticks of one that a monitor reports */
+#define VALUE_MAX INT32_C(1000000)             /* a value is from -VALUE_MAX to VALUE_MAX */
+#define CELL_MAX INT64_C(32760000000)          /* a cell's worth is from -CELL_MAX to CELL_MAX, */
+#define CELL_MARK INT64_MIN                    /* or this mark: no run is in that state now */
+#define SCORE_WITHOUT_TESTS INT64_C(2000001)   /* what a stay without tests is worth in `margin`, for infinity */
 
 /* Checks a pattern text: PATTERN_ACCEPTED (0), or the number of the refusal, 1 to 5. */
 uint32_t pattern_check(const uint8_t *text, size_t length);
 
 /* How many cells each of the monitor's two tables needs for the pattern of this text: at least 1 for an accepted text,
- * and 0 for a refused one. A cell is a signed 64-bit number. */
+ * and 0 for a refused one. A cell is a signed 64-bit number. The count fits 64 bits, and may be more than there is memory. */
 uint64_t pattern_cells(const uint8_t *text, size_t length);
+
+/* Opens a monitor for the pattern of this text: no ticks so far.
+ *
+ * `state` is the monitor's state, MONITOR_STATE_LENGTH entries: entry 0 holds the ticks so far, entries 1 to 8 the last
+ * value of each channel, zeros before the first piece and in unused channels. What it held before does not matter.
+ * `first` and `second` are the monitor's tables, at least pattern_cells numbers each. What they held does not matter.
+ * Further entries and cells are left as they are. State and tables belong together, and to this pattern: keep them as
+ * they are between the calls.
+ *
+ * Done: 0. Refused: 1 to 5 for the text, TABLE_TOO_SHORT, then STATE_BROKEN for a state of fewer than 9 entries. */
+uint32_t monitor_open(const uint8_t *text, size_t length, int64_t *state, size_t state_length, int64_t *first,
+                      size_t first_length, int64_t *second, size_t second_length);
+
+/* Feeds a piece: for `duration` ticks, 1 to PIECE_TICKS_MAX, channel i had the value values[i]; there are as many values
+ * as the pattern has channels. A piece that is as the one before it goes on with it, so it makes no difference where
+ * longer ones are cut.
+ *
+ * For tick i of the piece, from 0, scores[i] and lengths[i] report the best run that ends after that tick, at the time
+ * state[0] + i + 1 with state[0] as it was before the call: its score, and how many ticks it took, the least if there
+ * are several. Its begin is that end less the length. Length 0, with score 0, says that there is none. Places from
+ * `duration` on are left as they are.
+ * The state and both tables are moved on. Cells that no call wrote are taken as the worths they say.
+ *
+ * Done: 0. Refused: 1 to 5 for the text; STATE_BROKEN, for fewer than 9 entries, ticks that are not 0 to TICKS_MAX, a
+ * value out of range, a value that is not 0 in an unused channel, or any that is not 0 at 0 ticks; TABLE_TOO_SHORT;
+ * RECORD_BROKEN, for the duration, the number of values, or a value out of range; TOO_MANY_TICKS; CELL_BROKEN;
+ * REPORTS_TOO_SHORT. */
+uint32_t monitor_feed(const uint8_t *text, size_t length, int64_t *state, size_t state_length, int64_t *first,
+                      size_t first_length, int64_t *second, size_t second_length, uint32_t duration,
+                      const int32_t *values, size_t values_length, int64_t *scores, size_t scores_length,
+                      uint32_t *lengths, size_t lengths_length);
+
+struct run_price {
+    uint32_t refusal; /* 0, or the refusal's number */
+    int64_t score;    /* what the run is worth */
+};
+
+/* Prices a run in a record. The record has a piece for each duration, of at least 1 tick, up to RECORD_PIECES_MAX pieces
+ * and TICKS_MAX ticks in all; its values stand piece by piece, and in a piece channel by channel. The run begins at tick
+ * `begin` in a start place; step i stays stays[i] ticks, at least 1, and then takes edge edges[i], counted from 0 as in
+ * the text. The pattern's window does not count. Nothing lent is written.
+ *
+ * Refused: 1 to 5 for the text, RECORD_BROKEN, RUN_BROKEN, RUN_IMPOSSIBLE. */
+struct run_price run_price(const uint8_t *text, size_t length, const uint32_t *durations, size_t durations_length,
+                           const int32_t *values, size_t values_length, uint32_t begin, const uint32_t *edges,
+                           size_t edges_length, const uint32_t *stays, size_t stays_length);
+
+struct record_best {
+    uint32_t refusal; /* 0, or the refusal's number */
+    uint32_t found;   /* 1 if there is a run in the window; 0 if there is none, or at a refusal: the rest is then 0 */
+    uint32_t end;     /* when the best run ends; among equals the earliest, */
+    uint32_t begin;   /* and when it begins; among equals with that end the latest */
+    int64_t score;
+};
+
+/* The best run of a whole record (laid out as for run_price) among those whose length is in the pattern's window. The
+ * tables are as for monitor_open, and are left as opening a monitor and feeding it the whole record leaves them.
+ *
+ * Refused: 1 to 5 for the text, RECORD_BROKEN, TABLE_TOO_SHORT. */
+struct record_best record_best(const uint8_t *text, size_t length, const uint32_t *durations, size_t durations_length,
+                               const int32_t *values, size_t values_length, int64_t *first, size_t first_length,
+                               int64_t *second, size_t second_length);
 
 #ifdef __cplusplus
 }
