@@ -1,0 +1,148 @@
+/* stack.c: how much stack each C function takes, seen from a stack of its own that was painted before the call; and,
+ * with the argument `time`, how many calls a second there are. A function over 64 KiB fails. Built without the sanitizers,
+ * which would take stack of their own. */
+#define _GNU_SOURCE
+#include <inttypes.h>
+#include <stdio.h>
+#include <stdlib.h>
+#include <string.h>
+#include <time.h>
+#include <ucontext.h>
+
+#include "bench_margin.h"
+
+#define STACK (512 * 1024)
+#define LIMIT (64 * 1024)
+#define PAINT 0xc7
+#define CELLS 4096
+#define TICKS 1000
+
+static unsigned char *stack;
+static ucontext_t here, there;
+static void (*call)(void);
+
+static uint8_t text[PATTERN_TEXT_MAX];
+static size_t length;
+static int64_t state[MONITOR_STATE_LENGTH], first[CELLS], second[CELLS], scores[TICKS];
+static uint32_t lengths[TICKS], durations[] = {9, 400, 1, 70, 2000}, edges[] = {0, 1, 0, 1}, stays[] = {3, 4, 2, 6};
+static int32_t values[5 * 8];
+static uint32_t ticks = 1, answer;
+
+static void do_check(void) { answer |= pattern_check(text, length); }
+static void do_cells(void) { answer |= pattern_cells(text, length) == 0; }
+static void do_open(void)
+{
+    answer |= monitor_open(text, length, state, MONITOR_STATE_LENGTH, first, CELLS, second, CELLS);
+}
+static void do_feed(void)
+{
+    answer |= monitor_feed(text, length, state, MONITOR_STATE_LENGTH, first, CELLS, second, CELLS, ticks, values, 8,
+                           scores, TICKS, lengths, TICKS);
+    state[0] = 1; /* so that the ticks in all stay few */
+}
+static void do_price(void)
+{
+    answer |= run_price(text, length, durations, 5, values, 40, 2, edges, 4, stays, 4).refusal;
+}
+static void do_best(void)
+{
+    answer |= record_best(text, length, durations, 5, values, 40, first, CELLS, second, CELLS).refusal;
+}
+
+static const struct {
+    const char *name;
+    void (*call)(void);
+} functions[] = {{"pattern_check", do_check}, {"pattern_cells", do_cells}, {"monitor_open", do_open},
+                 {"monitor_feed", do_feed},   {"run_price", do_price},     {"record_best", do_best}};
+
+static void on_stack(void) { call(); }
+
+/* the bytes of a fresh stack that a call changed */
+static size_t taken(void (*function)(void))
+{
+    size_t untouched = 0;
+
+    memset(stack, PAINT, STACK);
+    call = function;
+    if (getcontext(&there) != 0)
+        exit(2);
+    there.uc_stack.ss_sp = stack;
+    there.uc_stack.ss_size = STACK;
+    there.uc_link = &here;
+    makecontext(&there, on_stack, 0);
+    if (swapcontext(&here, &there) != 0)
+        exit(2);
+    while (untouched < STACK && stack[untouched] == PAINT)
+        untouched++;
+    return STACK - untouched;
+}
+
+static double now(void)
+{
+    struct timespec t;
+
+    clock_gettime(CLOCK_MONOTONIC, &t);
+    return (double)t.tv_sec + (double)t.tv_nsec * 1e-9;
+}
+
+static void nothing(void) {}
+
+static void add(const char *line)
+{
+    memcpy(text + length, line, strlen(line));
+    length += strlen(line);
+}
+
+int main(int argc, char **argv)
+{
+    int timed = argc == 2 && strcmp(argv[1], "time") == 0, failed = 0, passed = 0;
+    size_t empty;
+
+    (void)argv;
+    /* 16 places with four tests each and 32 edges with guards and resets: the longest of everything but the window */
+    add("(pattern sum 8 2 1 3)\n(place both (> 0 -5) (>= 1 -9) (< 2 9) (<= 7 3))\n");
+    for (int i = 0; i < 15; i++)
+        add(i == 0 ? "(place both (> 3 -5) (>= 4 -9) (< 5 9) (<= 6 3))\n" : "(place plain (> 3 -5) (>= 4 -9) (< 5 9) (<= 6 3))\n");
+    add("(edge 0 1 (<= 0 3) (>= 1 1))\n(edge 1 0 (reset 0 1))\n");
+    for (int i = 0; i < 30; i++)
+        add(i % 2 ? "(edge 0 5 (> 0 1) (reset 1))\n" : "(edge 5 1 (< 0 3) (> 1 0) (reset 0))\n");
+    for (int i = 0; i < 40; i++)
+        values[i] = i % 13 - 6;
+    stack = malloc(STACK);
+    if (!stack || pattern_cells(text, length) > CELLS) {
+        printf("0 passed, 1 failed\n");
+        return 1;
+    }
+    empty = taken(nothing);
+    for (size_t i = 0; i < sizeof functions / sizeof *functions; i++) {
+        size_t most;
+
+        answer = 0;
+        most = taken(functions[i].call) - empty;
+        printf("%-13s %6zu bytes of stack\n", functions[i].name, most);
+        if (most < LIMIT && most != 0 && answer == 0)
+            passed++;
+        else
+            failed++;
+        if (timed) {
+            for (ticks = 1; ticks <= TICKS; ticks *= functions[i].call == do_feed ? 10 : 10000) {
+                double start = now(), spent;
+                uint64_t calls = 0;
+
+                do {
+                    for (int n = 0; n < 50; n++)
+                        functions[i].call();
+                    calls += 50;
+                } while ((spent = now() - start) < 0.5);
+                printf("              %.0f calls a second", (double)calls / spent);
+                if (functions[i].call == do_feed)
+                    printf(", %" PRIu32 " ticks each", ticks);
+                printf("\n");
+            }
+            ticks = 1;
+        }
+    }
+    free(stack);
+    printf("%d passed, %d failed\n", passed, failed);
+    return failed != 0;
+}
