@@ -98,11 +98,11 @@ pub fn feed_pattern(
     }
     let s = state_in(state);
     let after = feed_through(s, p, first, second, duration, values, scores, lengths);
-    let next = after.state;
+    let later = after.state;
     let answer = after.answer;
     match answer {
         Answer::Done => {
-            put_state(state, next);
+            put_state(state, later);
             0
         }
         Answer::Refused(cause) => cause_number(cause),
