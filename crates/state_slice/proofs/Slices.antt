@@ -13,19 +13,19 @@ use lib.IntN.{ℤ, pos}
 use lib.Signed.{pos-natAbs}
 use Rattle.pattern.specs.Slots.{all}
 use Rattle.pattern.proofs.SoundLaws.{both}
-use Rattle.state_slice.specs.Slice.{isTicks, isValue, valuesIn, holdsState, stateIn, withState}
+use Rattle.state_slice.specs.Slice.{isTicks, isValue, lastIn, holdsState, stateIn, withState}
 use Rattle.state_slice.specs.Claims.{WrittenIsRead, ReadIsWritten, LengthKept}
 use Rattle.state_slice.proofs.Entries.{ticks-sign, is-ticks}
 
 pub record Holds (l : List ℤ) : Type 0 where
   pub long : 9 ≤ length l
   pub ticks : isTicks (getD l 0 (pos 0)) ≡ true
-  pub values : all isValue (valuesIn l) ≡ true
+  pub values : all isValue (lastIn l) ≡ true
 
 pub holds : (l : List ℤ) → holdsState l ≡ true → Holds l
 unfolding holdsState
 holds l e =
-    let h = both (leb 9 (length l) && isTicks (getD l 0 (pos 0))) (all isValue (valuesIn l)) e in
+    let h = both (leb 9 (length l) && isTicks (getD l 0 (pos 0))) (all isValue (lastIn l)) e in
     let k = both (leb 9 (length l)) (isTicks (getD l 0 (pos 0))) (h .0) in
     record { long = leb-true 9 (length l) (k .0); ticks = k .1; values = h .1 }
 

@@ -17,16 +17,16 @@ unfoldable pub isValue : ℤ → Bool
 isValue z = leZ (negsuc 2_147_483_647) z && leZ z (pos 2_147_483_647)
 
 -- Entries 1 to 8.
-abbrev pub valuesIn : List ℤ → List ℤ
-valuesIn l = take 8 (drop 1 l)
+abbrev pub lastIn : List ℤ → List ℤ
+lastIn l = take 8 (drop 1 l)
 
 -- Whether a slice holds some state: at least 9 entries, and none of the first nine is one that no state can have.
 unfoldable pub holdsState : List ℤ → Bool
-holdsState l = leb 9 (length l) && isTicks (getD l 0 (pos 0)) && all isValue (valuesIn l)
+holdsState l = leb 9 (length l) && isTicks (getD l 0 (pos 0)) && all isValue (lastIn l)
 
 -- The state that it holds.
 abbrev pub stateIn : List ℤ → State
-stateIn l = record { ticks = natAbs (getD l 0 (pos 0)); last = valuesIn l }
+stateIn l = record { ticks = natAbs (getD l 0 (pos 0)); last = lastIn l }
 
 -- The slice once a state was written into it; "further cells are untouched" is said of the state's slice too.
 abbrev pub withState : State → List ℤ → List ℤ
