@@ -3,6 +3,7 @@ use Prim.Native.Nat.{ℕ, _≤_}
 use native.Mathlib.Omega.{arith}
 use mathlib.Core.Path.{_≡_}
 use mathlib.Core.Bool.{true}
+use borrow.Author.Tests.{leb-true}
 use lib.Dec.{T}
 use lib.IntN.{ℤ, pos, negsuc, natAbs}
 use lib.Signed.{leZ, nonNeg}
@@ -10,6 +11,7 @@ use mir.Syntax.{w32}
 use mir.Val.{Fits, SFits}
 use Rattle.integers.proofs.Linear.{le-of, of-le, pos-is, negsuc-is, abs-is, mag-is}
 use Rattle.pattern.proofs.SoundLaws.{both}
+use Rattle.record.specs.Record.{valueInRange}
 use Rattle.state_slice.specs.Slice.{isTicks, isValue}
 
 pub value-fits : (z : ℤ) → isValue z ≡ true → SFits w32 z
@@ -32,3 +34,10 @@ ticks-fits z e =
 pub is-ticks : (n : ℕ) → n ≤ 4294967295 → isTicks (pos n) ≡ true
 unfolding isTicks
 is-ticks n h = rw (of-le (pos 0) (pos n) (omega (arith, pos-is 0, pos-is n)), of-le (pos n) (pos 4294967295) (omega (arith, pos-is n, pos-is 4294967295)))
+
+-- a value in document 01's range is one of 32 bits
+pub in-range-is-value : (z : ℤ) → valueInRange z ≡ true → isValue z ≡ true
+unfolding isValue
+in-range-is-value z e =
+    let h = leb-true (natAbs z) 1000000 e in
+    rw (of-le (negsuc 2147483647) z (omega (arith, abs-is z, negsuc-is 2147483647)), of-le z (pos 2147483647) (omega (arith, abs-is z, pos-is 2147483647)))

@@ -7,15 +7,15 @@ use mathlib.Core.List.{List, [], _∷_, _++_}
 use mathlib.Core.Bool.{true, _&&_}
 use borrow.Author.Tests.{leb-true, le-leb}
 use lib.Dec.{leb}
-use lib.ListN.{length, take, drop, getD, set, take-append-drop, length-append, length-drop}
+use lib.ListN.{length, take, drop, getD, set, take-append-drop, length-append, length-take, length-drop}
 use lib.Seq.{paste, paste-suc, take-all, take-at}
 use lib.IntN.{ℤ, pos}
 use lib.Signed.{pos-natAbs}
 use Rattle.pattern.specs.Slots.{all}
 use Rattle.pattern.proofs.SoundLaws.{both}
 use Rattle.state_slice.specs.Slice.{isTicks, isValue, lastIn, holdsState, stateIn, withState}
-use Rattle.state_slice.specs.Claims.{WrittenIsRead, ReadIsWritten, LengthKept}
-use Rattle.state_slice.proofs.Entries.{ticks-sign, is-ticks}
+use Rattle.state_slice.specs.Claims.{HeldIsState, WrittenIsRead, ReadIsWritten, LengthKept}
+use Rattle.state_slice.proofs.Entries.{ticks-sign, ticks-fits, is-ticks}
 
 pub record Holds (l : List ℤ) : Type 0 where
   pub long : 9 ≤ length l
@@ -42,6 +42,14 @@ stored-behind d s k z h l =
     (paste-suc d 1 s k z (omega arith) l ∙ ap (paste d 1 s) (sym (add-one k)))
 
 -- ---- the claims
+
+pub held-is-state : HeldIsState
+held-is-state l e =
+    let h = holds l e in
+    let k = h .long in
+    let d = length-drop 1 l in
+    let f = ticks-fits (getD l 0 (pos 0)) (h .ticks) .fits in
+    record { ticks = omega arith; count = length-take 8 (drop 1 l) ∙ omega arith; values = h .values }
 
 pub written-is-read : WrittenIsRead
 unfolding holdsState

@@ -15,6 +15,10 @@ pub record IsState (s : State) : Type 0 where
   pub count : length (s .last) ≡ 8
   pub values : all isValue (s .last) ≡ true
 
+-- Theorem: what a slice holds is such a value.
+abbrev pub HeldIsState : Type 0
+HeldIsState = (l : List ℤ) → holdsState l ≡ true → IsState (stateIn l)
+
 -- Theorem: a state that was written is the one that is read, so a call finds what the call before it left.
 abbrev pub WrittenIsRead : Type 0
 WrittenIsRead = (s : State) (l : List ℤ) → IsState s → (holdsState (withState s l) ≡ true) × (stateIn (withState s l) ≡ s)
