@@ -4,17 +4,11 @@ use native.Mathlib.Omega.{arith}
 use mathlib.Core.Path.{_≡_, refl}
 use mathlib.Core.List.{List}
 use mathlib.Core.Option.{Option, none, some}
-use mathlib.Core.Bool.{Bool, true, false, not, cond, _&&_}
-use lib.Dec.{leb}
+use mathlib.Core.Bool.{Bool, true, false, not, cond}
 use lib.ListN.{length}
 use lib.IntN.{ℤ, pos}
-use Rattle.pattern.specs.declared.Pattern.{Pattern}
 use Rattle.pattern.specs.declared.Refusal.{Refusal}
-use Rattle.pattern.specs.declared.Refusal.the-variants.{TableTooShort}
-use Rattle.pattern.specs.Sound.{soundOf}
-use Rattle.pattern_text.specs.Bytes.{Bytes}
-use Rattle.pattern_text.specs.Text.{accepted, refused, readOf}
-use Rattle.pattern_text.proofs.Theorems.{texts-exact}
+use Rattle.pattern_text.specs.Text.{accepted, refused}
 use Rattle.record.specs.Record.{recordSound, bookOf}
 use Rattle.record.specs.Run.{stepsOf}
 use Rattle.record.specs.Worth.{priceOf}
@@ -22,40 +16,16 @@ use Rattle.price.specs.declared.Priced.{Priced}
 use Rattle.price.specs.declared.Priced.the-variants as priced
 use Rattle.price.specs.Price.{stepsFit, pricedAs, scoredAs, pricedOf}
 use Rattle.price.proofs.Numbers.{priced-numbers}
-use Rattle.monitor.specs.declared.State.{State}
-use Rattle.monitor.specs.State.{stateSound}
-use Rattle.monitor.specs.Open.{answerOf, answerNumber, unlessRefused, tableTooShort, openRefusal}
-use Rattle.monitor.specs.Feed.{Call, feedRefusal}
-use Rattle.monitor.proofs.Answers.{feed-numbers}
+use Rattle.monitor.specs.Open.{unlessRefused, tableTooShort}
 use Rattle.best.specs.declared.Found.{Found}
 use Rattle.best.specs.declared.Found.the-variants as found
 use Rattle.best.specs.Best.{Chosen, bestRefusal, answered, bestOf, chosenOf, foundAs, chosenAs}
 use Rattle.best.proofs.Answer.{best-numbers}
-use Rattle.state_slice.specs.Slice.{holdsState, stateIn, withState}
-use Rattle.state_slice.proofs.Slices.{read-is-written}
-use Rattle.host.specs.Calls.{numberOr, priceTold, bestTold}
-use Rattle.host.specs.Claims.{OpenedNumbers, FedNumbers, PriceNumbers, RecordNumbers, OpenRefusedAltersNothing, FeedRefusedAltersNothing, BestRefusedAltersNothing}
-
--- a pattern that was read is sound
-read-sound : (x : Bytes) (p : Pattern) → readOf x ≡ accepted p → soundOf p ≡ true
-read-sound x p e = texts-exact x p .0 e .0
+use Rattle.host_monitor.proofs.Claims.{read-sound}
+use Rattle.host.specs.Answers.{priceTold, bestTold}
+use Rattle.host.specs.Claims.{PriceNumbers, RecordNumbers, BestRefusedAltersNothing}
 
 -- ---- the numbers
-
-open-by : (b : Bool) (n : ℕ) → numberOr (answerOf (cond b (some TableTooShort) none)) n ≡ cond b 11 n
-open-by true n = refl
-open-by false n = refl
-
-pub opened-numbers : OpenedNumbers
-unfolding openRefusal
-opened-numbers x p e l t u = rw (e, read-sound x p e) (open-by (tableTooShort p (length t) (length u)) (cond (leb 9 (length l)) 0 12))
-
-feed-by : (h g : Bool) (k : ℕ) → cond h (cond (not g) 12 k) 12 ≡ cond (not (h && g)) 12 k
-feed-by true g k = refl
-feed-by false g k = refl
-
-pub fed-numbers : FedNumbers
-fed-numbers x p e l t u c = rw (e, feed-numbers p (stateIn l) t u c, read-sound x p e) (feed-by (holdsState l) (stateSound p (stateIn l)) _)
 
 price-refusal : (a : Priced) → priceTold a .refusal ≡ pricedAs a .0
 price-refusal (priced.Score w) = refl
@@ -87,28 +57,6 @@ record-numbers x p e ds vs t u =
     (best-by (recordSound (p .channels) ds vs) (tableTooShort p (length t) (length u)) (chosenAs (chosenOf p (bookOf (p .channels) ds vs))))
 
 -- ---- a refusal alters nothing
-
-open-still : (b : Bool) (o : Option Refusal) (l t u l′ t′ u′ : List ℤ) → 1 ≤ numberOr (answerOf o) (cond b 0 12)
-    → (cond b (unlessRefused o l′ l) l ≡ l) × (cond b (unlessRefused o t′ t) t ≡ t) × (cond b (unlessRefused o u′ u) u ≡ u)
-open-still true none l t u l′ t′ u′ h = absurd (omega arith)
-open-still true (some r) l t u l′ t′ u′ h = (refl, refl, refl)
-open-still false o l t u l′ t′ u′ h = (refl, refl, refl)
-
-pub open-refused-alters-nothing : OpenRefusedAltersNothing
-open-refused-alters-nothing (refused r) l t u h = (refl, refl, refl)
-open-refused-alters-nothing (accepted p) l t u h = open-still (leb 9 (length l)) (openRefusal p (length t) (length u)) l t u _ _ _ h
-
-module _ (l t u : List ℤ) (c : Call) (s : State) (t′ u′ ss : List ℤ) (ls : List ℕ) where
-  feed-still : (b : Bool) → holdsState l ≡ b → (o : Option Refusal) → 1 ≤ cond b (answerNumber (answerOf o)) 12
-      → (cond b (withState (unlessRefused o s (stateIn l)) l) l ≡ l) × (cond b (unlessRefused o t′ t) t ≡ t) × (cond b (unlessRefused o u′ u) u ≡ u)
-      × (cond b (unlessRefused o ss (c .scores)) (c .scores) ≡ c .scores) × (cond b (unlessRefused o ls (c .lengths)) (c .lengths) ≡ c .lengths)
-  feed-still true e none h = absurd (omega arith)
-  feed-still true e (some r) h = (read-is-written l e, refl, refl, refl, refl)
-  feed-still false e o h = (refl, refl, refl, refl, refl)
-
-pub feed-refused-alters-nothing : FeedRefusedAltersNothing
-feed-refused-alters-nothing (refused r) l t u c h = (refl, refl, refl, refl, refl)
-feed-refused-alters-nothing (accepted p) l t u c h = feed-still l t u c _ _ _ _ _ (holdsState l) refl (feedRefusal p (stateIn l) t u c) h
 
 best-still : (o : Option Refusal) (f : Option Chosen) (t u t′ u′ : List ℤ) → 1 ≤ bestTold (answered o f) .refusal
     → (unlessRefused o t′ t ≡ t) × (unlessRefused o u′ u ≡ u)

@@ -1,5 +1,4 @@
--- Laws: what a host program written in C is told, and what its calls leave; demand 3 of them.
+-- Laws: what a host program written in C is told.
 pub mod NumberLaws
-pub mod CallLaws
+pub mod Readings
 pub mod Claims
-pub mod Demand

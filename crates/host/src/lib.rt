@@ -2,13 +2,11 @@
 // feeding, pricing and the best of a record (document 01, 'Operations and refusals'). A pattern is given by its text, the
 // monitor's state is a lent slice of numbers (crate state_slice), and answers are plain numbers or structs of numbers.
 // include/bench_margin.h declares all of them for C.
-mod calls;
-
 use best::Found;
 use best::best;
-use calls::cause_number;
-use calls::feed_pattern;
-use calls::open_pattern;
+use host_monitor::cause_number;
+use host_monitor::feed_pattern;
+use host_monitor::open_pattern;
 use pattern::Counted;
 use pattern_read::Outcome;
 use price::Priced;
@@ -17,9 +15,9 @@ ghost use mathlib.Core.Path.{_≡_};
 ghost use Rattle.pattern_text.specs.Text.{readOf};
 ghost use Rattle.feed.specs.After.{callOf};
 ghost use Rattle.host.specs.Numbers.{outcomeNumber, countedCells, checkOf, countOf};
-ghost use Rattle.host.specs.Calls.{openedNumber, openedState, openedFirst, openedSecond};
-ghost use Rattle.host.specs.Calls.{fedNumber, fedState, fedFirst, fedSecond, fedScores, fedLengths};
-ghost use Rattle.host.specs.Calls.{priceTold, runPrice, bestTold, recordBest, recordFirst, recordSecond};
+ghost use Rattle.host_monitor.specs.Calls.{openedNumber, openedState, openedFirst, openedSecond};
+ghost use Rattle.host_monitor.specs.Calls.{fedNumber, fedState, fedFirst, fedSecond, fedScores, fedLengths};
+ghost use Rattle.host.specs.Answers.{priceTold, runPrice, bestTold, recordBest, recordFirst, recordSecond};
 
 // What a run is worth; 0 beside a refusal.
 #[repr(C)]

@@ -2,7 +2,7 @@
 use mathlib.Core.Path.{_≡_, refl}
 use borrow.Author.Needs.{needs}
 use Rattle.pattern_text.specs.Text.{accepted, refused, readOf}
-use Rattle.host.proofs.CallLaws.{accepted-is, refused-is}
+use Rattle.host.proofs.Readings.{accepted-is, refused-is}
 use Rattle.host.proofs.monitor_feed.Statement.{statement}
 use Rattle.host.proofs.monitor_feed.Tie as tie
 

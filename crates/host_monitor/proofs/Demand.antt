@@ -29,8 +29,8 @@ use Rattle.state_slice.specs.Slice.{isValue, holdsState, stateIn, withState}
 use Rattle.state_slice.specs.Claims.{IsState}
 use Rattle.state_slice.proofs.Entries.{in-range-is-value}
 use Rattle.state_slice.proofs.Slices.{held-is-state, written-is-read}
-use Rattle.host.specs.Calls.{numberOr, openedNumber, openedState, openedFirst, openedSecond, fedState, fedFirst, fedSecond}
-use Rattle.host.specs.Claims.{GoesOn, AllFed, HostDemand3}
+use Rattle.host_monitor.specs.Calls.{numberOr, openedNumber, openedState, openedFirst, openedSecond, fedState, fedFirst, fedSecond}
+use Rattle.host_monitor.specs.Claims.{GoesOn, AllFed, HostDemand3}
 
 all-values : (l : List ℤ) → all valueInRange l ≡ true → all isValue l ≡ true
 all-values [] e = refl

@@ -4,10 +4,10 @@ use borrow.Author.Tests.{lt-leb}
 use lib.ListN.{length}
 use borrow.Author.Needs.{needs}
 use Rattle.monitor.specs.declared.Answer as monitor
-use Rattle.host.specs.Calls.{numberOr}
-use Rattle.host.proofs.CallLaws.{open-done, open-refused}
-use Rattle.host.proofs.calls.open_pattern.Statement.{statement}
-use Rattle.host.proofs.calls.open_pattern.Tie as tie
+use Rattle.host_monitor.specs.Calls.{numberOr}
+use Rattle.host_monitor.proofs.CallLaws.{open-done, open-refused}
+use Rattle.host_monitor.proofs.open_pattern.Statement.{statement}
+use Rattle.host_monitor.proofs.open_pattern.Tie as tie
 
 open-refusal-requires : tie.Need-open-refusal-requires
 open-refusal-requires c κs = search needs

@@ -1,6 +1,5 @@
--- From a text's reading, and from what the library's calls give, to what a host in C is due.
-use Prim.Native.Nat.{ℕ, _≤_}
-use native.Mathlib.Omega.{arith}
+-- From what the library's calls give to what a host in C is due.
+use Prim.Native.Nat.{_≤_}
 use mathlib.Core.Path.{_≡_, sym, ap, _∙_}
 use mathlib.Core.List.{List}
 use mathlib.Core.Option.{none, some}
@@ -11,10 +10,7 @@ use lib.IntN.{ℤ}
 use Rattle.pattern.specs.declared.Pattern.{Pattern}
 use Rattle.pattern.specs.declared.Refusal.{Refusal}
 use Rattle.pattern.specs.Refusal.{numberOf}
-use Rattle.pattern_text.specs.Text.{Answer, accepted, refused}
-use Rattle.pattern_read.specs.declared.PatternRead.{PatternRead}
-use Rattle.pattern_read.specs.declared.Outcome.the-variants as outcome
-use Rattle.pattern_read.specs.Reading.{readingOf}
+use Rattle.pattern_text.specs.Text.{accepted}
 use Rattle.monitor.specs.declared.State.{State}
 use Rattle.monitor.specs.declared.After.{After}
 use Rattle.monitor.specs.declared.Answer.the-variants.{Done, Refused}
@@ -24,23 +20,7 @@ use Rattle.feed_checks.proofs.Accepted.{done, refused-for}
 use Rattle.feed.specs.After.{openedOf, fedOf}
 use Rattle.state_slice.specs.Slice.{holdsState, stateIn, withState}
 use Rattle.state_slice.proofs.Slices.{read-is-written}
-use Rattle.host.specs.Calls.{openedNumber, openedState, openedFirst, openedSecond, fedNumber, fedState}
-
--- ---- the answer to the text, by the outcome that the reading has
-
-pub accepted-is : (a : Answer) (r : PatternRead) → r ≡ readingOf a → r .outcome ≡ outcome.Accepted → a ≡ accepted (r .pattern)
-accepted-is (accepted p) r e o = ap (λ (x : PatternRead). accepted (x .pattern)) (sym e)
-accepted-is (refused q) r e o =
-    let f : outcome.Accepted ≡ outcome.Refused q = sym o ∙ ap (λ (x : PatternRead). x .outcome) e in
-    let z : _≡_ {A = ℕ} 0 1 = cc in absurd (omega arith)
-
-pub refused-is : (a : Answer) (r : PatternRead) (q : Refusal) → r ≡ readingOf a → r .outcome ≡ outcome.Refused q → a ≡ refused q
-refused-is (accepted p) r q e o =
-    let f : outcome.Refused q ≡ outcome.Accepted = sym o ∙ ap (λ (x : PatternRead). x .outcome) e in
-    let z : _≡_ {A = ℕ} 0 1 = cc in absurd (omega arith)
-refused-is (refused k) r q e o =
-    let f : outcome.Refused q ≡ outcome.Refused k = sym o ∙ ap (λ (x : PatternRead). x .outcome) e in
-    let g : k ≡ q = cc in ap refused g
+use Rattle.host_monitor.specs.Calls.{openedNumber, openedState, openedFirst, openedSecond, fedNumber, fedState}
 
 -- ---- an opening
 

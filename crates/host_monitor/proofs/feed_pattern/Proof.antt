@@ -6,9 +6,9 @@ use borrow.Author.Needs.{needs}
 use Rattle.feed.specs.After.{callOf}
 use Rattle.state_slice.specs.Slice.{holdsState}
 use Rattle.state_slice.proofs.Slices.{holds}
-use Rattle.host.proofs.CallLaws.{feed-done, feed-refused}
-use Rattle.host.proofs.calls.feed_pattern.Statement.{statement}
-use Rattle.host.proofs.calls.feed_pattern.Tie as tie
+use Rattle.host_monitor.proofs.CallLaws.{feed-done, feed-refused}
+use Rattle.host_monitor.proofs.feed_pattern.Statement.{statement}
+use Rattle.host_monitor.proofs.feed_pattern.Tie as tie
 
 holds-state-requires : tie.Need-holds-state-requires
 holds-state-requires c κs = search needs

@@ -1,4 +1,4 @@
-// Opening and feeding with the state in a lent slice, once the pattern's text is read.
+// Opening and feeding for a host in C, once the pattern's text is read: the state is in a lent slice, and the answer a number.
 use feed_checks::open_refusal;
 use lent_state::feed_through;
 use lent_state::open_through;
@@ -14,8 +14,8 @@ ghost use Rattle.pattern.specs.Refusal.{numberOf};
 ghost use Rattle.pattern_text.specs.Text.{accepted};
 ghost use Rattle.monitor.specs.State.{noTicks};
 ghost use Rattle.feed.specs.After.{callOf};
-ghost use Rattle.host.specs.Calls.{numberOr, openedNumber, openedState, openedFirst, openedSecond};
-ghost use Rattle.host.specs.Calls.{fedNumber, fedState, fedFirst, fedSecond, fedScores, fedLengths};
+ghost use Rattle.host_monitor.specs.Calls.{numberOr, openedNumber, openedState, openedFirst, openedSecond};
+ghost use Rattle.host_monitor.specs.Calls.{fedNumber, fedState, fedFirst, fedSecond, fedScores, fedLengths};
 
 // The number of a refusal, as wide as a host is told it.
 pub fn cause_number(cause: Refusal) -> u32

@@ -1,12 +1,12 @@
--- What the monitor's calls, the pricing and the best of a record hand back to a host in C, and what they leave of what it
--- lent: by the answer to the pattern's text, what the library's definitions say of the pattern that was read. A refused
--- text gives the reader's number and alters nothing. The state's slice is read and written as `state_slice/specs` says.
+-- What opening and feeding hand back to a host in C, and what they leave of what it lent: by the answer to the pattern's text,
+-- what the library's definitions say of the pattern that was read. A refused text gives the reader's number and alters
+-- nothing. The state's slice is read and written as `state_slice/specs` says.
 use Prim.Native.Nat.{ℕ}
 use mathlib.Core.List.{List}
 use mathlib.Core.Bool.{cond}
 use lib.Dec.{leb}
 use lib.ListN.{length}
-use lib.IntN.{ℤ, pos}
+use lib.IntN.{ℤ}
 use Rattle.pattern.specs.declared.Refusal.the-variants.{BrokenState}
 use Rattle.pattern.specs.Refusal.{numberOf}
 use Rattle.pattern_text.specs.Text.{Answer, accepted, refused}
@@ -15,15 +15,7 @@ use Rattle.monitor.specs.declared.Answer.the-variants.{Done, Refused}
 use Rattle.monitor.specs.State.{noTicks}
 use Rattle.monitor.specs.Open.{answerNumber, unlessRefused, openRefusal, openAnswer, openFirst, openSecond}
 use Rattle.monitor.specs.Feed.{Call, feedAnswer, feedState, feedFirst, feedSecond, feedScores, feedLengths}
-use Rattle.price.specs.declared.Priced.{Priced}
-use Rattle.price.specs.declared.Priced.the-variants as priced
-use Rattle.price.specs.Price.{pricedOf}
-use Rattle.best.specs.declared.Found.{Found}
-use Rattle.best.specs.declared.Found.the-variants as found
-use Rattle.best.specs.Best.{bestOf, bestFirst, bestSecond}
 use Rattle.state_slice.specs.Slice.{holdsState, stateIn, withState}
-use Rattle.host.specs.declared.RunPrice.{RunPrice}
-use Rattle.host.specs.declared.RecordBest.{RecordBest}
 
 -- ---- opening: 7, 11, then 12 for a slice that has no room for a state; what the slice held does not matter
 
@@ -74,34 +66,3 @@ fedScores (accepted p) l t u c = cond (holdsState l) (feedScores p (stateIn l) t
 abbrev pub fedLengths : Answer → (state first second : List ℤ) → Call → List ℕ
 fedLengths (refused r) l t u c = c .lengths
 fedLengths (accepted p) l t u c = cond (holdsState l) (feedLengths p (stateIn l) t u c) (c .lengths)
-
--- ---- pricing
-
--- the refusal's number, and the score; "a value that must stand beside it is zeros throughout"
-abbrev pub priceTold : Priced → RunPrice
-priceTold (priced.Score w) = record { refusal = 0; score = w }
-priceTold (priced.Refused r) = record { refusal = numberOf r; score = pos 0 }
-
-abbrev pub runPrice : Answer → (durations : List ℕ) → (values : List ℤ) → (begin : ℕ) → (edges stays : List ℕ) → RunPrice
-runPrice (refused r) ds vs begin es ss = priceTold (priced.Refused r)
-runPrice (accepted p) ds vs begin es ss = priceTold (pricedOf p ds vs begin es ss)
-
--- ---- the best of a record
-
--- `found` is 1 beside a run; without one, and beside a refusal, all else is zeros
-abbrev pub bestTold : Found → RecordBest
-bestTold (found.Run end begin score) = record { refusal = 0; found = 1; end = end; begin = begin; score = score }
-bestTold found.Nothing = record { refusal = 0; found = 0; end = 0; begin = 0; score = pos 0 }
-bestTold (found.Refused r) = record { refusal = numberOf r; found = 0; end = 0; begin = 0; score = pos 0 }
-
-abbrev pub recordBest : Answer → (durations : List ℕ) → (values : List ℤ) → (first second : List ℤ) → RecordBest
-recordBest (refused r) ds vs t u = bestTold (found.Refused r)
-recordBest (accepted p) ds vs t u = bestTold (bestOf p ds vs t u)
-
-abbrev pub recordFirst : Answer → (durations : List ℕ) → (values : List ℤ) → (first second : List ℤ) → List ℤ
-recordFirst (refused r) ds vs t u = t
-recordFirst (accepted p) ds vs t u = bestFirst p ds vs t u
-
-abbrev pub recordSecond : Answer → (durations : List ℕ) → (values : List ℤ) → (first second : List ℤ) → List ℤ
-recordSecond (refused r) ds vs t u = u
-recordSecond (accepted p) ds vs t u = bestSecond p ds vs t u
