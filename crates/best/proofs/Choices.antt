@@ -1,10 +1,11 @@
--- One report more, as the code tells the cases apart; and all reports of a stretch of ends.
+-- One report more, as the code tells the cases apart; the same report again; and all reports of a stretch of ends.
 use Prim.Native.Nat.{ℕ, zero, suc, _+_, _≤_, _<_}
 use native.Mathlib.Omega.{arith}
 use mathlib.Core.Path.{_≡_, refl, sym, ap, subst, _∙_}
 use mathlib.Core.List.{List}
 use mathlib.Core.Option.{Option, none, some}
-use mathlib.Core.Bool.{true, false}
+use mathlib.Core.Bool.{Bool, true, false, cond}
+use lib.Dec.{T}
 use lib.ListN.{getD}
 use lib.IntN.{ℤ, pos}
 use Rattle.weighting.specs.Weightings.{weightingOf}
@@ -23,6 +24,32 @@ module _ (p : Pattern) (end : ℕ) (score : ℤ) where
   pub no-run : (o : Option Chosen) (len : ℕ) → len ≡ 0 → o ≡ chosenWith p o end score len
   unfolding chosenWith
   no-run o len e = rw e
+
+  -- the same report again at a later end: the earliest of equals stays
+  module _ (later : ℕ) where
+    stays : (f : Chosen) (len : ℕ) → weightingOf (p .weighing) .order .atLeast (f .score) score ≡ true → chosenWith p (some f) later score len ≡ some f
+    unfolding chosenWith
+    stays f zero e = refl
+    stays f (suc len) e = rw e
+
+    no-worse : weightingOf (p .weighing) .order .atLeast score score ≡ true
+    no-worse = by (weightingOf (p .weighing) .order .atLeast score score) (weightingOf (p .weighing) .order .self score)
+      where
+        by : (x : Bool) → T x → x ≡ true
+        by true h = refl
+        by false h = absurd h
+
+    pub same-again : (o : Option Chosen) (len : ℕ) → chosenWith p (chosenWith p o end score len) later score len ≡ chosenWith p o end score len
+    unfolding chosenWith
+    same-again o zero = refl
+    same-again none (suc len) = stays (record { end = end; len = suc len; score = score }) (suc len) no-worse
+    same-again (some f) (suc len) = by (weightingOf (p .weighing) .order .atLeast (f .score) score) refl
+      where
+        by : (x : Bool) → weightingOf (p .weighing) .order .atLeast (f .score) score ≡ x
+            → chosenWith p (cond x (some f) (some (record { end = end; len = suc len; score = score }))) later score (suc len)
+            ≡ cond x (some f) (some (record { end = end; len = suc len; score = score }))
+        by true e = stays f (suc len) e
+        by false e = stays (record { end = end; len = suc len; score = score }) (suc len) no-worse
 
   module _ (e : ℕ) (s : ℤ) where
     -- a run, and none before it

@@ -113,11 +113,11 @@ module _ (p : Pattern) (sound : soundOf p ≡ true) (ds : List ℕ) (vs : List �
         (let k = parts (p .channels) ds vs fits .short in let w = within in omega arith)
         (λ j l. fine j (let w = within in omega arith)) state chosen first
 
-  -- a turn of the loop: `left` ticks of the piece are left, and d more are fed
-  module _ (i left d : ℕ) (inside : i < length ds) (low : left ≤ getD ds i 0) (more : 0 < left) (is : d ≡ min left 64)
+  -- a turn of the loop over the first `count` ticks of a piece: `left` of them are left, and d more are fed
+  module _ (i count left d : ℕ) (inside : i < length ds) (all : count ≤ getD ds i 0) (low : left ≤ count) (more : 0 < left) (is : d ≡ min left 64)
       (s : Search) (t t₀ u u₀ : List ℤ) (firstLong : cellsNeeded p ≤ length t₀) (secondLong : cellsNeeded p ≤ length u₀) where
     abbrev at : ℕ → ℕ
-    at k = total (take i ds) + (getD ds i 0 - k)
+    at k = total (take i ds) + (count - k)
 
     abbrev c : Call
     c = chunkOf d (sampleAt (p .channels) vs i)
@@ -131,7 +131,7 @@ module _ (p : Pattern) (sound : soundOf p ≡ true) (ds : List ℕ) (vs : List �
 
       turned : Turned p B (s .state) (chosenIn (s .choice)) t u c (at left)
       turned =
-          fed i (getD ds i 0 - left) d inside (omega arith) (omega arith) (omega arith) (s .state) (chosenIn (s .choice)) t u
+          fed i (count - left) d inside (omega arith) (omega arith) (omega arith) (s .state) (chosenIn (s .choice)) t u
           (let e = long-first in omega arith) (let e = long-second in omega arith) (searched .0) (searched .1)
           (first ∙ sym (written-again p (tableTo p B (at left)) (tableTo p B (at left)) t₀) ∙ ap (written p (tableTo p B (at left))) (sym first))
 

@@ -53,6 +53,10 @@ chunkOf ticks vs = record { duration = ticks; values = vs; scores = replicate 64
 abbrev pub SearchedTo : Pattern → Book → ℕ → Search → Type 0
 SearchedTo p b n s = (s .state ≡ stateTo p b n) × (chosenIn (s .choice) ≡ chosenTo p b n)
 
+-- Ticks that pass and change neither the last values nor the choice: a piece's, once the table stands still.
+abbrev pub passed : Search → (rest : ℕ) → Search
+passed s rest = record { state = record { ticks = s .state .ticks + rest; last = s .state .last }; choice = s .choice }
+
 -- A record whose first `piece` pieces were fed, and tables that hold what is then due.
 pub record Fit (p : Pattern) (ds : List ℕ) (vs : List ℤ) (piece : ℕ) (s : Search) (t u : List ℤ) : Type 0 where
   pub sound : soundOf p ≡ true

@@ -13,13 +13,13 @@ use weighting::at_least;
 ghost use mathlib.Core.Path.{_≡_};
 ghost use Prim.Native.Nat.{_+_, _≤_, _<_};
 ghost use mathlib.Core.Option.{none};
-ghost use lib.ListN.{length, take};
+ghost use lib.ListN.{length, take, getD};
 ghost use Rattle.record.specs.Record.{total, bookOf};
 ghost use Rattle.monitor.specs.Cells.{written};
 ghost use Rattle.monitor.specs.Open.{answerOf, marks};
 ghost use Rattle.monitor.specs.Feed.{feedState, feedFirst, feedSecond, feedScores, feedLengths};
 ghost use Rattle.best.specs.Best.{chosenWith, chosenOf, bestRefusal, answered, bestOf, bestFirst, bestSecond};
-ghost use Rattle.best.specs.Search.{tableTo, chosenIn, chosenPast, chunkOf, SearchedTo, Fit};
+ghost use Rattle.best.specs.Search.{tableTo, chosenIn, chosenPast, chunkOf, SearchedTo, passed, Fit};
 
 // The best run's end, begin and score; no run; or refused for a cause.
 pub enum Found {
@@ -127,7 +127,58 @@ fn feed_some(
     }
 }
 
-// One piece, in chunks.
+// The first `count` ticks of a piece, in chunks.
+fn feed_part(
+    p: Pattern,
+    durations: &[u32],
+    values: &[i32],
+    piece: usize,
+    count: u32,
+    s: Search,
+    first: &mut [i64],
+    second: &mut [i64],
+) -> Search
+    requires { ⌜ (Fit p (now durations) (now values) piece s (now first) (now second))
+        × (piece < length (now durations)) × (count ≤ getD (now durations) piece 0) ⌝ }
+    ensures { λ r. ⌜ SearchedTo p (bookOf (p .channels) (now (durations .entry)) (now (values .entry)))
+        (total (take piece (now (durations .entry))) + count) r ⌝ }
+    ensures { λ _. ⌜ now (first .exit)
+        ≡ written p (tableTo p (bookOf (p .channels) (now (durations .entry)) (now (values .entry)))
+        (total (take piece (now (durations .entry))) + count)) (now (first .entry)) ⌝ }
+    ensures { λ _. ⌜ now (second .exit) ≡ marks p (now (second .entry)) ⌝ }
+{
+    let channels = p.channels as usize;
+    let at = piece * channels;
+    let past = at + channels;
+    let mut left = count;
+    let mut search = s;
+    while 0 < left {
+        let ticks = least(left, 64);
+        search = feed_some(p, ticks, &values[at..past], search, first, second);
+        left -= ticks;
+    }
+    search
+}
+
+// The rest of a piece whose table stands still: its reports are the last one again, and of equals the earliest end stays.
+fn pass_rest(s: Search, rest: u32) -> Search
+    requires { ⌜ s .state .ticks + rest ≤ 2147483647 ⌝ }
+    ensures { λ r. ⌜ r ≡ passed s rest ⌝ }
+{
+    let state = s.state;
+    let choice = s.choice;
+    let last = state.last;
+    let later = State {
+        ticks: state.ticks + rest,
+        last: last,
+    };
+    Search {
+        state: later,
+        choice: choice,
+    }
+}
+
+// One piece. Its later ticks are all alike, so that after high + 2 of them the table stands still, and the rest passes.
 fn feed_whole(
     p: Pattern,
     durations: &[u32],
@@ -146,17 +197,11 @@ fn feed_whole(
         (total (take (piece + 1) (now (durations .entry))))) (now (first .entry)) ⌝ }
     ensures { λ _. ⌜ now (second .exit) ≡ marks p (now (second .entry)) ⌝ }
 {
-    let channels = p.channels as usize;
-    let at = piece * channels;
-    let past = at + channels;
-    let mut left = durations[piece];
-    let mut search = s;
-    while 0 < left {
-        let ticks = least(left, 64);
-        search = feed_some(p, ticks, &values[at..past], search, first, second);
-        left -= ticks;
-    }
-    search
+    let duration = durations[piece];
+    let still = p.high as u32 + 2;
+    let moved = least(duration, still);
+    let search = feed_part(p, durations, values, piece, moved, s, first, second);
+    pass_rest(search, duration - moved)
 }
 
 // All pieces.

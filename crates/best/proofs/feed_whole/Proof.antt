@@ -1,167 +1,86 @@
--- Chunk by chunk: what was fed of the piece is what is not left.
-use Prim.Native.Nat.{ℕ, _+_, _*_, _-_, _≤_, _<_, min}
+-- The ticks until the table stands still are fed, and then the rest of the piece passes.
+use Prim.Native.Nat.{ℕ, _+_, _-_, _≤_, min}
 use native.Mathlib.Omega.{arith}
-use mathlib.Core.Path.{_≡_, refl, sym, ap, subst, _∙_}
+use mathlib.Core.Path.{_≡_, sym, ap, subst, _∙_}
 use borrow.Author.Needs.{needs}
-use lib.ListN.{length, take, getD}
+use lib.ListN.{take, getD}
 use Rattle.record.specs.Record.{total, bookOf}
-use Rattle.record.proofs.RecordLaws.{parts, total-more, sample-within, part-sample}
+use Rattle.record.proofs.RecordLaws.{total-more}
 use Rattle.monitor.specs.Cells.{written}
-use Rattle.monitor.specs.Open.{marks}
-use Rattle.monitor.proofs.Written.{written-length, marks-length}
-use Rattle.best.specs.Search.{tableTo, SearchedTo}
-use Rattle.best.proofs.Turn.{onward, room-on}
+use Rattle.best.specs.Search.{tableTo, SearchedTo, passed}
+use Rattle.best.proofs.Still.{room-passes, table-passes, passes}
 use Rattle.best.proofs.feed_whole.Statement.{statement}
 use Rattle.best.proofs.feed_whole.Tie as tie
 
-abbrev Inv-loop : tie.InvT-loop
-Inv-loop p durations values piece first₀ second₀ channels at past left₀ search₀ first second left search =
-    (left ≤ getD durations piece 0)
-    × SearchedTo p (bookOf (p .channels) durations values) (total (take piece durations) + (getD durations piece 0 - left)) search
-    × (first ≡ written p (tableTo p (bookOf (p .channels) durations values) (total (take piece durations) + (getD durations piece 0 - left))) first₀)
-    × (second ≡ marks p second₀)
+mul-duration : tie.Need-mul-duration
+mul-duration c = search needs
 
-abbrev μ-loop : tie.MeasureT-loop
-μ-loop p durations values piece first₀ second₀ channels at past left₀ search₀ first second left search = left
+shared-slice-read-duration : tie.Need-shared-slice-read-duration
+shared-slice-read-duration c = search needs
 
--- the part of the values is a sample, and lies in the slice
-within : (c : tie.Start Inv-loop μ-loop) → c .args .piece * c .args .p .channels + c .args .p .channels ≤ length (c .args .values .now)
-within c =
-    let a = c .args in
-    let k = parts (a .p .channels) (a .durations .now) (a .values .now) (c .pre .0 .fits) .agree in
-    let w = sample-within (a .piece) (length (a .durations .now)) (a .p .channels) (c .pre .1) in
-    omega arith
+cast-still : tie.Need-cast-still
+cast-still c = search needs
 
-cast-channels : tie.Need-cast-channels Inv-loop μ-loop
-cast-channels c = search needs
+add-still : tie.Need-add-still
+add-still c = search needs
 
--- src/lib.rt:143:14
-mul-at : tie.Need-mul-at Inv-loop μ-loop
-mul-at c = let w = within (c .before .before) in search needs
+least-requires : tie.Need-least-requires
+least-requires c κs = search needs
 
--- src/lib.rt:144:16
-add-past : tie.Need-add-past Inv-loop μ-loop
-add-past c = let w = within (c .before .before) in search needs
+feed-part-requires : tie.Need-feed-part-requires
+feed-part-requires c κs = search needs
 
--- src/lib.rt:145:20
-mul-left : tie.Need-mul-left Inv-loop μ-loop
-mul-left c = let w = within (c .before .before) in search needs
+sub-pass-rest : tie.Need-sub-pass-rest
+sub-pass-rest c = search needs
 
--- src/lib.rt:145:20
-shared-slice-read-left : tie.Need-shared-slice-read-left Inv-loop μ-loop
-shared-slice-read-left c = let w = within (c .before .before .before) in search needs
-
--- src/lib.rt:147:5
-loop-holds : tie.Need-loop-holds Inv-loop μ-loop
-loop-holds c =
-    let k = c .before .before .before .pre .0 in
-    let a = c .before .before .before .args in
-    let e : total (take (a .piece) (a .durations .now)) ≡ total (take (a .piece) (a .durations .now)) + (getD (a .durations .now) (a .piece) 0 - getD (a .durations .now) (a .piece) 0) = omega arith in (
-      omega arith,
-      subst (λ (n : ℕ). SearchedTo (a .p) (bookOf (a .p .channels) (a .durations .now) (a .values .now)) n (a .s)) e (k .searched),
-      k .first ∙ ap (λ (n : ℕ). written (a .p) (tableTo (a .p) (bookOf (a .p .channels) (a .durations .now) (a .values .now)) n) (a .first .now)) e,
-      k .second,
-    )
-
--- src/lib.rt:148:13
-least-requires : tie.Need-least-requires Inv-loop μ-loop
-least-requires c κs = tt
-
--- src/lib.rt:149:38
-mul-feed-some : tie.Need-mul-feed-some Inv-loop μ-loop
-mul-feed-some c = let w = within (c .before .before .before .before .before .before) in search needs
-
--- src/lib.rt:149:38
-sub-feed-some : tie.Need-sub-feed-some Inv-loop μ-loop
-sub-feed-some c = let w = within (c .before .before .before .before .before .before) in search needs
-
--- src/lib.rt:149:38
-part-feed-some-start : tie.Need-part-feed-some-start Inv-loop μ-loop
-part-feed-some-start c = let w = within (c .before .before .before .before .before .before) in search needs
-
--- src/lib.rt:149:38
-part-feed-some-end : tie.Need-part-feed-some-end Inv-loop μ-loop
-part-feed-some-end c = let w = within (c .before .before .before .before .before .before) in search needs
-
--- src/lib.rt:149:9
-feed-some-requires : tie.Need-feed-some-requires Inv-loop μ-loop
-feed-some-requires c κs =
+pass-rest-requires : tie.Need-pass-rest-requires
+pass-rest-requires c κs =
     let st = c .before .before .before .before .before .before .before .before .before in
     let a = st .args in
-    let l = c .before .before .before .before .before .loop in
-    let e = c .before .before .before .least .ensures in (
-      omega arith,
-      room-on (a .p) (st .pre .0 .sound) (a .durations .now) (a .values .now) (st .pre .0 .fits) (a .piece) (l .left) (c .before .before .before .least .result) (st .pre .1) (l .inv .0) (omega arith) e (l .search)
-          (l .first) (a .first .now) (l .second) (a .second .now) (st .pre .0 .firstLong) (st .pre .0 .secondLong) (l .inv .1) (l .inv .2) (l .inv .3),
-    )
+    let m = c .before .before .before .before .before .least .result in
+    let is : m ≡ min (getD (a .durations .now) (a .piece) 0) _ = c .before .before .before .before .before .least .ensures in
+    room-passes (a .p) (st .pre .0 .sound) (a .durations .now) (a .values .now) (a .piece) (st .pre .1) (st .pre .0 .fits) m (omega arith)
+    (c .before .before .feed-part .result) (c .before .before .feed-part .ensures .0)
 
--- src/lib.rt:150:9
-sub-left : tie.Need-sub-left Inv-loop μ-loop
-sub-left c = let e = c .before .before .before .before .before .before .least .ensures in omega arith
+same-length : tie.Need-same-length
+same-length c = search needs
 
--- src/lib.rt:147:5
-loop-less : tie.Need-loop-less Inv-loop μ-loop
-loop-less c = let e = c .before .before .before .before .before .before .least .ensures in omega arith
+same-length-2 : tie.Need-same-length-2
+same-length-2 c = search needs
 
--- src/lib.rt:147:5
-loop-again : tie.Need-loop-again Inv-loop μ-loop
-loop-again c =
-    let st = c .before .before .before .before .before .before .before .before .before .before .before .before in
-    let a = st .args in
-    let l = c .before .before .before .before .before .before .before .before .loop in
-    let d = c .before .before .before .before .before .before .least .result in
-    let e = c .before .before .before .before .before .before .least .ensures in
-    let more : 0 < l .left = omega arith in
-    let o = rw (part-sample (a .p .channels) (a .piece) (a .values .now)) at (c .before .before .feed-some .ensures) in
-    let on =
-    onward (a .p) (st .pre .0 .sound) (a .durations .now) (a .values .now) (st .pre .0 .fits) (a .piece) (l .left) d (st .pre .1) (l .inv .0) more e (l .search)
-    (l .first) (a .first .now) (l .second) (a .second .now) (st .pre .0 .firstLong) (st .pre .0 .secondLong) (l .inv .1) (l .inv .2) (l .inv .3) in
-    (omega arith, (o .0 ∙ on .0 .0, o .1 .0 ∙ on .0 .1), o .1 .1 .0 ∙ on .1, o .1 .1 .1 ∙ on .2)
-
--- src/lib.rt:124:1
-same-length : tie.Need-same-length Inv-loop μ-loop
-same-length c =
-    let st = c .before .before .before .before .before in
-    ap length (c .before .loop .inv .2) ∙ written-length (st .args .p) (st .pre .0 .sound) _ (st .args .first .now) (st .pre .0 .firstLong)
-
--- src/lib.rt:124:1
-same-length-2 : tie.Need-same-length-2 Inv-loop μ-loop
-same-length-2 c =
-    let st = c .before .before .before .before .before in
-    ap length (c .before .loop .inv .3) ∙ marks-length (st .args .p) (st .pre .0 .sound) (st .args .second .now) (st .pre .0 .secondLong)
-
--- src/lib.rt:124:1
-returns : tie.Need-returns Inv-loop μ-loop
+returns : tie.Need-returns
 returns c =
-    let st = c .before .before .before .before .before in
+    let st = c .before .before .before .before .before .before .before .before .before .before in
     let a = st .args in
-    let l = c .before .loop in
+    let d = getD (a .durations .now) (a .piece) 0 in
+    let m = c .before .before .before .before .before .before .least .result in
+    let is : m ≡ min d (a .p .high + 2) = c .before .before .before .before .before .before .least .ensures in
+    let o = c .before .before .before .feed-part .ensures in
     let B = bookOf (a .p .channels) (a .durations .now) (a .values .now) in
-    let e : total (take (a .piece) (a .durations .now)) + (getD (a .durations .now) (a .piece) 0 - l .left) ≡ total (take (a .piece + 1) (a .durations .now)) =
-    let m = total-more (a .durations .now) (a .piece) (st .pre .1) in omega arith in
-    (subst (λ (n : ℕ). SearchedTo (a .p) B n (l .search)) e (l .inv .1), (l .inv .2 ∙ ap (λ (n : ℕ). written (a .p) (tableTo (a .p) B n) (a .first .now)) e, l .inv .3))
+    let e : total (take (a .piece) (a .durations .now)) + d ≡ total (take (a .piece + 1) (a .durations .now)) = sym (total-more (a .durations .now) (a .piece) (st .pre .1)) in
+    let s = passed (c .before .before .before .feed-part .result) (d - m) in
+    let on = passes (a .p) (st .pre .0 .sound) (a .durations .now) (a .values .now) (a .piece) (st .pre .1) m is (c .before .before .before .feed-part .result) (o .0) in (
+      subst (SearchedTo (a .p) B (total (take (a .piece + 1) (a .durations .now)))) (sym (c .pass-rest .ensures)) (subst (λ (n : ℕ). SearchedTo (a .p) B n s) e on),
+      (
+        o .1 .0
+            ∙ table-passes (a .p) (st .pre .0 .sound) (a .durations .now) (a .values .now) (a .piece) (st .pre .1) m is (a .first .now)
+            ∙ ap (λ (n : ℕ). written (a .p) (tableTo (a .p) B n) (a .first .now)) e,
+        o .1 .1,
+      ),
+    )
 
 pub feed-whole-spec : {M : Type 1} → statement M
 feed-whole-spec =
     tie.close
     (tie.spec
-    Inv-loop
-    μ-loop
-    cast-channels
-    mul-at
-    add-past
-    mul-left
-    shared-slice-read-left
-    loop-holds
+    mul-duration
+    shared-slice-read-duration
+    cast-still
+    add-still
     least-requires
-    mul-feed-some
-    sub-feed-some
-    part-feed-some-start
-    part-feed-some-end
-    feed-some-requires
-    sub-left
-    loop-less
-    loop-again
+    feed-part-requires
+    sub-pass-rest
+    pass-rest-requires
     same-length
     same-length-2
     returns)
