@@ -1,5 +1,6 @@
 // Refused feeds between the pieces of document 01's record: they count for nothing.
 use super::calls::fed;
+use super::calls::fed_in_full;
 use super::calls::fed_into;
 use super::calls::fed_shown;
 use super::calls::lent;
@@ -57,7 +58,7 @@ fn few_scores(s: State, p: Pattern, first: &mut [i64], second: &mut [i64]) -> St
     let mut scores: [i64; 1] = [77; 1];
     let mut lengths: [u32; 2] = [77; 2];
     let values: [i32; 1] = [40];
-    fed_into(
+    fed_in_full(
         b"scores one short",
         s,
         p,
@@ -75,7 +76,7 @@ fn few_lengths(s: State, p: Pattern, first: &mut [i64], second: &mut [i64]) -> S
     let mut scores: [i64; 2] = [77; 2];
     let mut lengths: [u32; 1] = [77; 1];
     let values: [i32; 1] = [40];
-    fed_into(
+    fed_in_full(
         b"lengths one short",
         s,
         p,

@@ -1,5 +1,6 @@
 // Openings and feeds with what they answered, a line each.
 use super::lines::put_fed;
+use super::lines::put_fed_in_full;
 use super::lines::put_opened;
 use lent_state::feed_through;
 use lent_state::open_through;
@@ -47,6 +48,25 @@ pub fn fed_into(
     let answer = after.answer;
     let state = after.state;
     put_fed(label, answer, scores, lengths, state);
+    state
+}
+
+// The same for report slices of unlike lengths, which are shown in full.
+pub fn fed_in_full(
+    label: &[u8],
+    s: State,
+    p: Pattern,
+    first: &mut [i64],
+    second: &mut [i64],
+    duration: u32,
+    values: &[i32],
+    scores: &mut [i64],
+    lengths: &mut [u32],
+) -> State {
+    let after = feed_through(s, p, first, second, duration, values, scores, lengths);
+    let answer = after.answer;
+    let state = after.state;
+    put_fed_in_full(label, answer, scores, lengths, state);
     state
 }
 

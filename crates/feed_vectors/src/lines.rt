@@ -40,6 +40,45 @@ pub fn put_fed(label: &[u8], a: Answer, scores: &[i64], lengths: &[u32], s: Stat
     io::write_all(1, b"\n");
 }
 
+// A feed's line with every place of both report slices as it stands, 77 where nothing was written.
+pub fn put_fed_in_full(label: &[u8], a: Answer, scores: &[i64], lengths: &[u32], s: State) {
+    io::write_all(1, label);
+    put_answer(a);
+    io::write_all(1, b" scores");
+    put_scores(scores);
+    io::write_all(1, b"; lengths");
+    put_lengths(lengths);
+    io::write_all(1, b";");
+    put_state(s);
+    io::write_all(1, b"\n");
+}
+
+fn put_score(score: i64) {
+    io::write_all(1, b" ");
+    put_signed(score);
+}
+
+fn put_scores(scores: &[i64]) {
+    let mut i: usize = 0;
+    while i < scores.len() {
+        put_score(scores[i]);
+        i += 1;
+    }
+}
+
+fn put_length(length: u32) {
+    io::write_all(1, b" ");
+    put(length as u64);
+}
+
+fn put_lengths(lengths: &[u32]) {
+    let mut i: usize = 0;
+    while i < lengths.len() {
+        put_length(lengths[i]);
+        i += 1;
+    }
+}
+
 // The ticks, then the last values.
 pub fn put_state(s: State) {
     let last = s.last;

@@ -1,6 +1,8 @@
 // The patterns that are fed, beside document 01's.
 use pattern::Pattern;
 use vector_parts::patterns::pattern_of;
+use vector_parts::patterns::weighed;
+use weighting::Weighing;
 
 // The first three clocks' guards hold after every stay.
 pub fn fourth_below() -> Pattern {
@@ -39,4 +41,27 @@ pub fn no_clocks() -> Pattern {
           (place both (> 0 0))\n\
           (edge 0 0)\n",
     )
+}
+
+// Runs of 1 or 2 ticks in one place.
+pub fn one_place(w: Weighing) -> Pattern {
+    let p = pattern_of(
+        b"(pattern margin 1 0 1 2)\n\
+          (place both (> 0 0))\n\
+          (edge 0 0)\n",
+    );
+    weighed(p, w)
+}
+
+// The four signs, on three channels.
+pub fn three_channels(w: Weighing) -> Pattern {
+    let p = pattern_of(
+        b"(pattern margin 3 0 1 3)\n\
+          (place start (< 0 10) (> 1 2))\n\
+          (place plain (>= 2 -4) (<= 1 9))\n\
+          (place end)\n\
+          (edge 0 1)\n\
+          (edge 1 2)\n",
+    );
+    weighed(p, w)
 }

@@ -30,6 +30,36 @@ fn short_second() {
     fed_shown(b"feed, second of 149", s, p, &mut first, &mut second, 1, 10);
 }
 
+// Tables without a cell: both, and either.
+fn empty_both() {
+    let p = document(Weighing::Margin);
+    let mut first: [i64; 0] = [];
+    let mut second: [i64; 0] = [];
+    opened(b"open, both of 0", p, &mut first, &mut second);
+    let s = lent(5, 10, 0);
+    fed_shown(b"feed, both of 0", s, p, &mut first, &mut second, 1, 10);
+}
+
+fn empty_first() {
+    let p = document(Weighing::Margin);
+    let mut first: [i64; 0] = [];
+    let mut second: [i64; 150] = [MARK; 150];
+    second[7] = 5;
+    opened(b"open, first of 0", p, &mut first, &mut second);
+    let s = lent(5, 10, 0);
+    fed_shown(b"feed, first of 0", s, p, &mut first, &mut second, 1, 10);
+}
+
+fn empty_second() {
+    let p = document(Weighing::Margin);
+    let mut first: [i64; 150] = [MARK; 150];
+    let mut second: [i64; 0] = [];
+    first[7] = 5;
+    opened(b"open, second of 0", p, &mut first, &mut second);
+    let s = lent(5, 10, 0);
+    fed_shown(b"feed, second of 0", s, p, &mut first, &mut second, 1, 10);
+}
+
 // A pattern without channels is unsound; 7 comes before 11, and before 12.
 fn unsound() {
     let mut p = document(Weighing::Margin);
@@ -71,6 +101,9 @@ pub fn run() {
     io::write_all(1, b"refusals\n");
     short_first();
     short_second();
+    empty_both();
+    empty_first();
+    empty_second();
     unsound();
     state_and_tables_first();
     piece_then_cells();
