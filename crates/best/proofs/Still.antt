@@ -4,7 +4,6 @@ use native.Mathlib.Omega.{arith}
 use mathlib.Core.Path.{_≡_, refl, sym, ap, subst, _∙_}
 use mathlib.Core.Logic.{_⊎_, inl, inr, ⊎-elim}
 use mathlib.Core.List.{List, _++_, List·Memᴰ}
-use mathlib.Core.Option.{Option}
 use mathlib.Core.Bool.{Bool, true, false}
 use borrow.Author.Tests.{leb-true, leb-false}
 use lib.Dec.{leb}
@@ -32,7 +31,7 @@ use Rattle.monitor.proofs.Written.{written-same}
 use Rattle.monitor.proofs.PieceViews.{longer, before-front, before-end, view-front, view-new}
 use Rattle.best.specs.declared.Search.{Search}
 use Rattle.best.specs.Best.{chosenWith, chosenTo, scoreAt, lengthAt}
-use Rattle.best.specs.Search.{tableTo, stateTo, SearchedTo, passed}
+use Rattle.best.specs.Search.{tableTo, SearchedTo, passed}
 use Rattle.best.proofs.Choices.{same-again}
 use Rattle.best.proofs.Pieces.{front, rest, split, front-long, start-low}
 

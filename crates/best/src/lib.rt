@@ -178,7 +178,7 @@ fn pass_rest(s: Search, rest: u32) -> Search
     }
 }
 
-// One piece. Its later ticks are all alike, so that after high + 2 of them the table stands still, and the rest passes.
+// One piece. All its ticks but the first are alike, so after high + 2 ticks the table stands still, and the rest passes.
 fn feed_whole(
     p: Pattern,
     durations: &[u32],

@@ -1,9 +1,9 @@
 -- Chunk by chunk: what was fed of the ticks is what is not left.
-use Prim.Native.Nat.{ℕ, _+_, _*_, _-_, _≤_, _<_, min}
+use Prim.Native.Nat.{ℕ, _+_, _*_, _-_, _≤_, _<_}
 use native.Mathlib.Omega.{arith}
-use mathlib.Core.Path.{_≡_, refl, sym, ap, subst, _∙_}
+use mathlib.Core.Path.{_≡_, ap, subst, _∙_}
 use borrow.Author.Needs.{needs}
-use lib.ListN.{length, take, getD}
+use lib.ListN.{length, take}
 use Rattle.record.specs.Record.{total, bookOf}
 use Rattle.record.proofs.RecordLaws.{parts, sample-within, part-sample}
 use Rattle.monitor.specs.Cells.{written}
