@@ -13,6 +13,7 @@ use pattern::Pattern;
 use record::rules::least;
 use record::samples::same_sample;
 use table::clear;
+use table::raise;
 ghost use mathlib.Core.Path.{_≡_};
 ghost use mathlib.Core.Bool.{true, false, not};
 ghost use mathlib.Core.Option.{none};
@@ -115,25 +116,27 @@ fn last_after(last: [i32; 8], values: &[i32]) -> [i32; 8]
 }
 
 // The ticks of a piece, each with its report. Its later ticks are all alike, so that after high + 2 of them the table stands
-// still: the rest of the reports is the last one again.
+// still: the rest of the reports is the last one again. Meanwhile the second table holds the flags of the first one's blocks.
 fn tell_piece(
     p: Pattern,
     new: bool,
     duration: u32,
     values: &[i32],
     first: &mut [i64],
+    second: &mut [i64],
     scores: &mut [i64],
     lengths: &mut [u32],
 )
     requires { ⌜ (soundOf p ≡ true) × (all valueInRange (now values) ≡ true)
         × (cellsNeeded p ≤ length (now first)) × (all cellFine (take (cellsNeeded p) (now first)) ≡ true)
-        × (duration ≤ length (now scores)) × (duration ≤ length (now lengths)) ⌝ }
+        × (duration ≤ length (now scores)) × (duration ≤ length (now lengths)) × (cellsNeeded p ≤ length (now second)) ⌝ }
     ensures { λ _. ⌜ now (first .exit)
         ≡ written p (tableIn p new (now (values .entry)) (now (first .entry)) duration) (now (first .entry)) ⌝ }
     ensures { λ _. ⌜ now (scores .exit)
         ≡ scoresIn p new (now (values .entry)) (now (first .entry)) duration (now (scores .entry)) ⌝ }
     ensures { λ _. ⌜ now (lengths .exit)
         ≡ lengthsIn p new (now (values .entry)) (now (first .entry)) duration (now (lengths .entry)) ⌝ }
+    ensures { λ _. ⌜ marks p (now (second .exit)) ≡ marks p (now (second .entry)) ⌝ }
 {
     let l = layout_of(p, p.high);
     let w = p.weighing;
@@ -146,8 +149,10 @@ fn tell_piece(
     let low = p.low as usize;
     let still = p.high as u32 + 2;
     let moved = least(duration, still) as usize;
+    raise(second, l);
     tell_all(
         first,
+        second,
         scores,
         lengths,
         moved,
@@ -187,7 +192,7 @@ fn feed_piece(
         (now (first .entry)) duration (now (lengths .entry)) ⌝ }
 {
     let new = is_new(p, s, values);
-    tell_piece(p, new, duration, values, first, scores, lengths);
+    tell_piece(p, new, duration, values, first, second, scores, lengths);
     mark_all(p, second);
     let before = s.last;
     let last = last_after(before, values);

@@ -19,7 +19,7 @@ ghost use lib.ListN.{length, getD, set};
 ghost use lib.IntN.{pos};
 ghost use Rattle.table.specs.Moves.{tickOf};
 ghost use Rattle.table.specs.Reports.{toldOf};
-ghost use Rattle.table.specs.Asks.{Ticking};
+ghost use Rattle.table.specs.Asks.{Ticking, Flagged, Marked};
 ghost use Rattle.feed_ticks.specs.Ticks.{kindFlag, kindFlags, viewIn, viewAt, groundOf};
 ghost use Rattle.feed_ticks.specs.Ticks.{Telling, tableTo, scoresTo, lengthsTo, repeated};
 
@@ -94,6 +94,7 @@ fn view_at(first: View, later: View, i: usize) -> View
 // One tick over the table, and its report in place i.
 fn tell(
     first: &mut [i64],
+    flags: &mut [i64],
     scores: &mut [i64],
     lengths: &mut [u32],
     i: usize,
@@ -106,14 +107,16 @@ fn tell(
     ends: [bool; 16],
     low: usize,
 )
-    requires { ⌜ (Ticking (now first) l v edges count) × (i < length (now scores)) × (i < length (now lengths)) ⌝ }
+    requires { ⌜ (Ticking (now first) l v edges count) × (i < length (now scores)) × (i < length (now lengths))
+        × (Flagged l (now first) (now flags)) ⌝ }
     ensures { λ _. ⌜ now (first .exit) ≡ tickOf l w v edges count starts (now (first .entry)) ⌝ }
     ensures { λ _. ⌜ now (scores .exit)
         ≡ set (now (scores .entry)) i (toldOf l w v edges count ends low (now (first .entry)) .score) ⌝ }
     ensures { λ _. ⌜ now (lengths .exit)
         ≡ set (now (lengths .entry)) i (toldOf l w v edges count ends low (now (first .entry)) .length) ⌝ }
+    ensures { λ _. ⌜ Marked l (now (first .exit)) (now (flags .entry)) (now (flags .exit)) ⌝ }
 {
-    let r = tick(first, l, w, v, edges, count, starts, ends, low);
+    let r = tick(first, flags, l, w, v, edges, count, starts, ends, low);
     let score = r.score;
     let ticks = r.length as u32;
     scores[i] = score;
@@ -123,6 +126,7 @@ fn tell(
 // All ticks of a piece, each with its report.
 pub fn tell_all(
     first: &mut [i64],
+    flags: &mut [i64],
     scores: &mut [i64],
     lengths: &mut [u32],
     duration: usize,
@@ -136,19 +140,21 @@ pub fn tell_all(
     ends: [bool; 16],
     low: usize,
 )
-    requires { ⌜ Telling (groundOf l w edges count starts ends low) v u (now first)
-        (length (now scores)) (length (now lengths)) duration ⌝ }
+    requires { ⌜ (Telling (groundOf l w edges count starts ends low) v u (now first)
+        (length (now scores)) (length (now lengths)) duration) × (Flagged l (now first) (now flags)) ⌝ }
     ensures { λ _. ⌜ now (first .exit) ≡ tableTo (groundOf l w edges count starts ends low) v u (now (first .entry)) duration ⌝ }
     ensures { λ _. ⌜ now (scores .exit)
         ≡ scoresTo (groundOf l w edges count starts ends low) v u (now (first .entry)) (now (scores .entry)) duration ⌝ }
     ensures { λ _. ⌜ now (lengths .exit)
         ≡ lengthsTo (groundOf l w edges count starts ends low) v u (now (first .entry)) (now (lengths .entry)) duration ⌝ }
+    ensures { λ _. ⌜ Marked l (now (first .exit)) (now (flags .entry)) (now (flags .exit)) ⌝ }
 {
     let mut i: usize = 0;
     while i < duration {
         let seen = view_at(v, u, i);
         tell(
             first,
+            flags,
             scores,
             lengths,
             i,

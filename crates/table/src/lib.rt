@@ -1,6 +1,7 @@
 // One tick over a monitor's table in place, with its report, and the opening of a table (document 01, 'Monitor tables').
 // A tick moves length n to n + 1, so row n + 1 is cleared and row n offered into it, from the longest to the shortest.
-// What is offered to an end place just entered is noted for the report as it is offered.
+// What is offered to an end place just entered is noted for the report as it is offered. A second slice has a flag for each
+// block: a mark where all its cells are marks, so that it need not be looked at.
 pub mod report;
 
 use self::report::Report;
@@ -23,18 +24,19 @@ use weighting::combine;
 use weighting::unit;
 ghost use mathlib.Core.Path.{_≡_};
 ghost use mathlib.Core.Bool.{cond, true};
-ghost use Prim.Native.Nat.{_+_, _≤_, _<_};
+ghost use Prim.Native.Nat.{_+_, _*_, _≤_, _<_};
 ghost use lib.ListN.{length, set};
+ghost use lib.IntN.{pos};
 ghost use lib.Signed.{ltZ};
 ghost use Rattle.weighting.specs.Cell.{mark};
-ghost use Rattle.cells.specs.Layout.{Laid};
-ghost use Rattle.cells.specs.Index.{Within, blockAt};
+ghost use Rattle.cells.specs.Layout.{Laid, cellsIn};
+ghost use Rattle.cells.specs.Index.{Within, blockAt, Placed};
 ghost use Rattle.pattern.specs.Clocks.{guardsHold};
-ghost use Rattle.table.specs.Moves.{cellAt, cleared, offered, still, moved, stayOf, sentOf, visitsOf, passOf};
-ghost use Rattle.table.specs.Moves.{placeOf, placesOf, rowOf, rowsOf, begun, tickOf, openOf};
+ghost use Rattle.table.specs.Moves.{cellAt, marked, cleared, offered, still, moved, stayOf, sentOf, visitsOf, passOf};
+ghost use Rattle.table.specs.Moves.{placeOf, placesOf, rowOf, rowsOf, startsOf, begun, tickOf, openOf};
 ghost use Rattle.table.specs.Reports.{toldMove, toldVisits, toldPass, toldPlace, toldPlaces, tellsAt, toldRow, toldOf};
 ghost use Rattle.table.specs.Asks.{Known, Ticking, Filed, Sourced, Linked, Edges, Moving, Passing, Placing, Ready, Rows};
-ghost use Rattle.table.specs.Asks.{Occupied, Staying};
+ghost use Rattle.table.specs.Asks.{Occupied, Staying, flagAt, Block, Flagged, FlagOf, Marked, Raised};
 
 // What one tick gains in each place, by stage: just entered, or staying. MARK where the place cannot be stayed in.
 pub struct View {
@@ -82,6 +84,14 @@ fn offer(table: &mut [i64], w: Weighing, j: usize, worth: i64)
     table[j] = choose(w, old, worth);
 }
 
+// Which of the table's blocks the one of a length, a stage and a place is.
+fn flag_at(l: Layout, n: usize, stage: usize, p: usize) -> usize
+    requires { ⌜ Placed l n stage p ⌝ }
+    ensures { λ r. ⌜ r ≡ flagAt l n stage p ⌝ }
+{
+    (n * 2 + stage) * l.places + p
+}
+
 // Staying is an edge without guards and resets.
 fn stay(place: u8) -> Edge
     ensures { λ r. ⌜ r ≡ still place ⌝ }
@@ -100,24 +110,30 @@ fn stay(place: u8) -> Edge
     }
 }
 
-// A worth with these clocks, both a tick later, moved along e into the block at `to`, if e can be taken.
+// A worth with these clocks, both a tick later, moved along e into the block at `to`, if e can be taken; its flag is then
+// no mark.
 fn turn(
     table: &mut [i64],
+    flags: &mut [i64],
     l: Layout,
     w: Weighing,
     e: Edge,
     to: usize,
+    flag: usize,
     clocks: [u32; 4],
     worth: i64,
 ) -> bool
-    requires { ⌜ (Laid l) × (Within (l .radices) clocks) × (to + l .block ≤ length (now table)) ⌝ }
+    requires { ⌜ (Laid l) × (Within (l .radices) clocks) × (to + l .block ≤ length (now table))
+        × (flag < length (now flags)) ⌝ }
     ensures { λ r. ⌜ r ≡ guardsHold clocks e ⌝ }
+    ensures { λ _. ⌜ now (flags .exit) ≡ cond (guardsHold clocks e) (set (now (flags .entry)) flag (pos 0)) (now (flags .entry)) ⌝ }
     ensures { λ _. ⌜ now (table .exit) ≡ moved l w e to clocks worth (now (table .entry)) ⌝ }
 {
     if guards_hold(e, clocks) {
         let reset = after_resets(e, clocks);
         let j = code(l, reset);
         offer(table, w, to + j, worth);
+        flags[flag] = 0;
         true
     } else {
         false
@@ -127,6 +143,7 @@ fn turn(
 // Along e into length n + 1, just entered, and into the report if a run of this length may end there.
 fn leave(
     table: &mut [i64],
+    flags: &mut [i64],
     l: Layout,
     w: Weighing,
     e: Edge,
@@ -136,13 +153,15 @@ fn leave(
     worth: i64,
     r: Report,
 ) -> Report
-    requires { ⌜ (Moving (now table) l n clocks) × (e .to < l .places) ⌝ }
+    requires { ⌜ (Moving (now table) l n clocks) × (e .to < l .places) × (Flagged l (now table) (now flags)) ⌝ }
     ensures { λ q. ⌜ q ≡ toldMove w (now (tells .entry)) n clocks worth e r ⌝ }
     ensures { λ _. ⌜ now (table .exit) ≡ moved l w e (blockAt l (n + 1) 0 (e .to)) clocks worth (now (table .entry)) ⌝ }
+    ensures { λ _. ⌜ Marked l (now (table .exit)) (now (flags .entry)) (now (flags .exit)) ⌝ }
 {
     let end = e.to as usize;
     let to = block_at(l, n + 1, 0, end);
-    let taken = turn(table, l, w, e, to, clocks, worth);
+    let flag = flag_at(l, n + 1, 0, end);
+    let taken = turn(table, flags, l, w, e, to, flag, clocks, worth);
     let told = tells[end];
     note_if(w, taken & told, r, worth, n + 1)
 }
@@ -156,6 +175,7 @@ struct Sent {
 // A worth with these clocks, in p: a tick later it stays in p, and is then sent along edges.
 fn visit(
     table: &mut [i64],
+    flags: &mut [i64],
     l: Layout,
     w: Weighing,
     gain: i64,
@@ -164,15 +184,17 @@ fn visit(
     clocks: [u32; 4],
     worth: i64,
 ) -> Sent
-    requires { ⌜ Staying (now table) l gain worth n p ⌝ }
+    requires { ⌜ (Staying (now table) l gain worth n p) × (Flagged l (now table) (now flags)) ⌝ }
     ensures { λ r. ⌜ r ≡ sentOf l w gain clocks worth ⌝ }
     ensures { λ _. ⌜ now (table .exit) ≡ stayOf l w gain n p clocks worth (now (table .entry)) ⌝ }
+    ensures { λ _. ⌜ Marked l (now (table .exit)) (now (flags .entry)) (now (flags .exit)) ⌝ }
 {
     let ticked = tick_clocks(l, clocks);
     let grown = combine(w, worth, gain);
     let e = stay(p as u8);
     let to = block_at(l, n + 1, 1, p);
-    turn(table, l, w, e, to, ticked, grown);
+    let flag = flag_at(l, n + 1, 1, p);
+    turn(table, flags, l, w, e, to, flag, ticked, grown);
     Sent {
         clocks: ticked,
         worth: grown,
@@ -208,6 +230,7 @@ fn occupied(table: &[i64], at: usize, k: usize, size: usize) -> Spot
 // loops stand together so that the edges are copied once a block and not once a cell.
 fn visits(
     table: &mut [i64],
+    flags: &mut [i64],
     l: Layout,
     w: Weighing,
     edges: [Edge; 32],
@@ -222,9 +245,10 @@ fn visits(
     r: Report,
 ) -> Report
     requires { ⌜ (Passing (now table) l gain n p at) × (Edges l edges count (now links)) × (ltZ mark gain ≡ true)
-        × (Occupied (now table) at (l .block) 0 start) ⌝ }
+        × (Occupied (now table) at (l .block) 0 start) × (Flagged l (now table) (now flags)) ⌝ }
     ensures { λ q. ⌜ q ≡ toldVisits l w edges count (now (tells .entry)) gain n p at (l .block) (now (table .entry)) r ⌝ }
     ensures { λ _. ⌜ now (table .exit) ≡ visitsOf l w edges count gain n p at (l .block) (now (table .entry)) ⌝ }
+    ensures { λ _. ⌜ Marked l (now (table .exit)) (now (flags .entry)) (now (flags .exit)) ⌝ }
 {
     let size = l.block;
     let first = links[32 + p] as usize;
@@ -236,13 +260,13 @@ fn visits(
         let k = spot.cell;
         let v = spot.worth;
         let here = clocks_to(l, clocks, last, k);
-        let sent = visit(table, l, w, gain, n, p, here, v);
+        let sent = visit(table, flags, l, w, gain, n, p, here, v);
         let ticked = sent.clocks;
         let worth = sent.worth;
         let mut i = first;
         while i < count {
             let e = edges[i];
-            best = leave(table, l, w, e, tells, n, ticked, worth, best);
+            best = leave(table, flags, l, w, e, tells, n, ticked, worth, best);
             i = links[i] as usize;
         }
         last = k;
@@ -255,6 +279,7 @@ fn visits(
 // The block, unless its place cannot be stayed in or no cell of it is occupied.
 fn pass(
     table: &mut [i64],
+    flags: &mut [i64],
     l: Layout,
     w: Weighing,
     edges: [Edge; 32],
@@ -265,30 +290,37 @@ fn pass(
     n: usize,
     p: usize,
     at: usize,
+    flag: usize,
     r: Report,
 ) -> Report
-    requires { ⌜ (Passing (now table) l gain n p at) × (Edges l edges count (now links)) ⌝ }
+    requires { ⌜ (Passing (now table) l gain n p at) × (Edges l edges count (now links)) × (Flagged l (now table) (now flags))
+        × (FlagOf l at flag) ⌝ }
     ensures { λ q. ⌜ q ≡ toldPass l w edges count (now (tells .entry)) gain n p at (now (table .entry)) r ⌝ }
     ensures { λ _. ⌜ now (table .exit) ≡ passOf l w edges count gain n p at (now (table .entry)) ⌝ }
+    ensures { λ _. ⌜ Marked l (now (table .exit)) (now (flags .entry)) (now (flags .exit)) ⌝ }
 {
+    let f = flags[flag];
     if MARK < gain {
-        let start = occupied(table, at, 0, l.block);
-        if start.cell < l.block {
-            return visits(
-                table,
-                l,
-                w,
-                edges,
-                count,
-                links,
-                tells,
-                gain,
-                n,
-                p,
-                at,
-                start,
-                r,
-            );
+        if MARK < f {
+            let start = occupied(table, at, 0, l.block);
+            if start.cell < l.block {
+                return visits(
+                    table,
+                    flags,
+                    l,
+                    w,
+                    edges,
+                    count,
+                    links,
+                    tells,
+                    gain,
+                    n,
+                    p,
+                    at,
+                    start,
+                    r,
+                );
+            }
         }
     }
     r
@@ -297,6 +329,7 @@ fn pass(
 // The cells of length n in place p, of both stages.
 fn place(
     table: &mut [i64],
+    flags: &mut [i64],
     l: Layout,
     w: Weighing,
     edges: [Edge; 32],
@@ -309,15 +342,35 @@ fn place(
     p: usize,
     r: Report,
 ) -> Report
-    requires { ⌜ (Placing (now table) l entered staying n p) × (Edges l edges count (now links)) ⌝ }
+    requires { ⌜ (Placing (now table) l entered staying n p) × (Edges l edges count (now links))
+        × (Flagged l (now table) (now flags)) ⌝ }
     ensures { λ q. ⌜ q ≡ toldPlace l w edges count (now (tells .entry)) entered staying n p (now (table .entry)) r ⌝ }
     ensures { λ _. ⌜ now (table .exit) ≡ placeOf l w edges count entered staying n p (now (table .entry)) ⌝ }
+    ensures { λ _. ⌜ Marked l (now (table .exit)) (now (flags .entry)) (now (flags .exit)) ⌝ }
 {
     let a = block_at(l, n, 0, p);
     let b = block_at(l, n, 1, p);
-    let first = pass(table, l, w, edges, count, links, tells, entered, n, p, a, r);
+    let c = flag_at(l, n, 0, p);
+    let d = flag_at(l, n, 1, p);
+    let first = pass(
+        table,
+        flags,
+        l,
+        w,
+        edges,
+        count,
+        links,
+        tells,
+        entered,
+        n,
+        p,
+        a,
+        c,
+        r,
+    );
     pass(
         table,
+        flags,
         l,
         w,
         edges,
@@ -328,6 +381,7 @@ fn place(
         n,
         p,
         b,
+        d,
         first,
     )
 }
@@ -335,6 +389,7 @@ fn place(
 // Row n into row n + 1, place by place: each cell of row n is looked at once.
 fn row(
     table: &mut [i64],
+    flags: &mut [i64],
     l: Layout,
     w: Weighing,
     v: View,
@@ -345,9 +400,11 @@ fn row(
     n: usize,
     r: Report,
 ) -> Report
-    requires { ⌜ (Known l v edges count) × (Linked edges count (now links)) × (Ready (now table) l n) ⌝ }
+    requires { ⌜ (Known l v edges count) × (Linked edges count (now links)) × (Ready (now table) l n)
+        × (Flagged l (now table) (now flags)) ⌝ }
     ensures { λ q. ⌜ q ≡ toldPlaces l w v edges count (now (tells .entry)) n (l .places) (now (table .entry)) r ⌝ }
     ensures { λ _. ⌜ now (table .exit) ≡ placesOf l w v edges count n (l .places) (now (table .entry)) ⌝ }
+    ensures { λ _. ⌜ Marked l (now (table .exit)) (now (flags .entry)) (now (flags .exit)) ⌝ }
 {
     let m = l.places;
     let mut best = r;
@@ -357,6 +414,7 @@ fn row(
         let staying = v.staying[p];
         best = place(
             table,
+            flags,
             l,
             w,
             edges,
@@ -381,9 +439,40 @@ fn tells_at(ends: [bool; 16], low: usize, ticks: usize) -> [bool; 16]
     if ticks < low { [false; 16] } else { ends }
 }
 
+// The mark in all cells of block b, which has `size` cells, unless they are marks.
+fn wipe_block(table: &mut [i64], flags: &mut [i64], l: Layout, b: usize)
+    requires { ⌜ (Laid l) × (cellsIn l ≤ length (now table)) × (Flagged l (now table) (now flags)) × (Block l b) ⌝ }
+    ensures { λ _. ⌜ now (table .exit) ≡ marked (now (table .entry)) (b * l .block) (l .block) ⌝ }
+    ensures { λ _. ⌜ Marked l (now (table .exit)) (now (flags .entry)) (now (flags .exit)) ⌝ }
+{
+    let f = flags[b];
+    if MARK < f {
+        let size = l.block;
+        let at = b * size;
+        clear(table, at, at + size);
+        flags[b] = MARK;
+    }
+}
+
+// The mark in all cells of row n.
+fn wipe_row(table: &mut [i64], flags: &mut [i64], l: Layout, n: usize)
+    requires { ⌜ (Laid l) × (cellsIn l ≤ length (now table)) × (Flagged l (now table) (now flags)) × (n ≤ l .high) ⌝ }
+    ensures { λ _. ⌜ now (table .exit) ≡ cleared (now (table .entry)) (n * l .row) (n * l .row + l .row) ⌝ }
+    ensures { λ _. ⌜ Marked l (now (table .exit)) (now (flags .entry)) (now (flags .exit)) ⌝ }
+{
+    let count = 2 * l.places;
+    let from = n * count;
+    let mut i: usize = 0;
+    while i < count {
+        wipe_block(table, flags, l, from + i);
+        i += 1;
+    }
+}
+
 // Row n + 1 anew, from row n.
 fn advance(
     table: &mut [i64],
+    flags: &mut [i64],
     l: Layout,
     w: Weighing,
     v: View,
@@ -395,20 +484,21 @@ fn advance(
     n: usize,
     r: Report,
 ) -> Report
-    requires { ⌜ (Known l v edges count) × (Linked edges count (now links)) × (Ready (now table) l n) ⌝ }
+    requires { ⌜ (Known l v edges count) × (Linked edges count (now links)) × (Ready (now table) l n)
+        × (Flagged l (now table) (now flags)) ⌝ }
     ensures { λ q. ⌜ q ≡ toldRow l w v edges count ends low n (now (table .entry)) r ⌝ }
     ensures { λ _. ⌜ now (table .exit) ≡ rowOf l w v edges count n (now (table .entry)) ⌝ }
+    ensures { λ _. ⌜ Marked l (now (table .exit)) (now (flags .entry)) (now (flags .exit)) ⌝ }
 {
-    let size = l.row;
-    let at = (n + 1) * size;
-    clear(table, at, at + size);
+    wipe_row(table, flags, l, n + 1);
     let tells = tells_at(ends, low, n + 1);
-    row(table, l, w, v, edges, count, links, &tells, n, r)
+    row(table, flags, l, w, v, edges, count, links, &tells, n, r)
 }
 
 // All rows, the longest first.
 fn rows(
     table: &mut [i64],
+    flags: &mut [i64],
     l: Layout,
     w: Weighing,
     v: View,
@@ -418,15 +508,30 @@ fn rows(
     ends: [bool; 16],
     low: usize,
 ) -> Report
-    requires { ⌜ (Known l v edges count) × (Linked edges count (now links)) × (Rows (now table) l) ⌝ }
+    requires { ⌜ (Known l v edges count) × (Linked edges count (now links)) × (Rows (now table) l)
+        × (Flagged l (now table) (now flags)) ⌝ }
     ensures { λ q. ⌜ q ≡ toldOf l w v edges count ends low (now (table .entry)) ⌝ }
     ensures { λ _. ⌜ now (table .exit) ≡ rowsOf l w v edges count (l .high) (now (table .entry)) ⌝ }
+    ensures { λ _. ⌜ Marked l (now (table .exit)) (now (flags .entry)) (now (flags .exit)) ⌝ }
 {
     let mut best = no_report();
     let mut n = l.high;
     while 0 < n {
         n -= 1;
-        best = advance(table, l, w, v, edges, count, links, ends, low, n, best);
+        best = advance(
+            table,
+            flags,
+            l,
+            w,
+            v,
+            edges,
+            count,
+            links,
+            ends,
+            low,
+            n,
+            best,
+        );
     }
     best
 }
@@ -440,25 +545,45 @@ fn seed(table: &mut [i64], on: bool, at: usize, worth: i64)
     }
 }
 
+// The same worth where each start place's cells begin, of which there are `size`.
+fn seeds(table: &mut [i64], starts: [bool; 16], count: usize, size: usize, worth: i64)
+    requires { ⌜ (count ≤ 16) × (0 < size) × (count * size ≤ length (now table)) ⌝ }
+    ensures { λ _. ⌜ now (table .exit) ≡ startsOf size worth starts count (now (table .entry)) ⌝ }
+{
+    let mut p: usize = 0;
+    while p < count {
+        let on = starts[p];
+        seed(table, on, p * size, worth);
+        p += 1;
+    }
+}
+
 // The empty run in each start place.
 fn begin(table: &mut [i64], l: Layout, w: Weighing, starts: [bool; 16])
     requires { ⌜ Filed (now table) l ⌝ }
     ensures { λ _. ⌜ now (table .exit) ≡ begun l w starts (now (table .entry)) ⌝ }
 {
-    let m = l.places;
-    let size = l.block;
     let empty = unit(w);
-    let mut p: usize = 0;
-    while p < m {
-        let on = starts[p];
-        seed(table, on, p * size, empty);
-        p += 1;
+    seeds(table, starts, l.places, l.block, empty);
+}
+
+// No block's flag is a mark, so that all are looked at once.
+pub fn raise(flags: &mut [i64], l: Layout)
+    requires { ⌜ (Laid l) × (cellsIn l ≤ length (now flags)) ⌝ }
+    ensures { λ _. ⌜ Raised l (now (flags .entry)) (now (flags .exit)) ⌝ }
+{
+    let count = (l.high + 1) * 2 * l.places;
+    let mut b: usize = 0;
+    while b < count {
+        flags[b] = 0;
+        b += 1;
     }
 }
 
 // The table one tick later, and the report of its ends. Cells past those needed are untouched.
 pub fn tick(
     table: &mut [i64],
+    flags: &mut [i64],
     l: Layout,
     w: Weighing,
     v: View,
@@ -468,14 +593,16 @@ pub fn tick(
     ends: [bool; 16],
     low: usize,
 ) -> Report
-    requires { ⌜ Ticking (now table) l v edges count ⌝ }
+    requires { ⌜ (Ticking (now table) l v edges count) × (Flagged l (now table) (now flags)) ⌝ }
     ensures { λ q. ⌜ q ≡ toldOf l w v edges count ends low (now (table .entry)) ⌝ }
     ensures { λ _. ⌜ now (table .exit) ≡ tickOf l w v edges count starts (now (table .entry)) ⌝ }
+    ensures { λ _. ⌜ Marked l (now (table .exit)) (now (flags .entry)) (now (flags .exit)) ⌝ }
 {
     let links = links_of(edges, count);
-    let told = rows(table, l, w, v, edges, count, &links, ends, low);
-    clear(table, 0, l.row);
+    let told = rows(table, flags, l, w, v, edges, count, &links, ends, low);
+    wipe_row(table, flags, l, 0);
     begin(table, l, w, starts);
+    seeds(flags, starts, l.places, 1, 0);
     told
 }
 

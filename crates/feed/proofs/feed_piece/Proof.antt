@@ -28,23 +28,27 @@ is-new-requires c κs = let few = parts (c .before .args .p) (told (c .before) .
 
 -- src/lib.rt:186:5
 tell-piece-requires : tie.Need-tell-piece-requires
-tell-piece-requires c κs = let f = told (c .before .before .before .before .before) in (f .sound, f .piece .values, f .tables .first, f .cells, f .scores, f .lengths)
+tell-piece-requires c κs = let f = told (c .before .before .before .before .before .before) in (f .sound, f .piece .values, f .tables .first, f .cells, f .scores, f .lengths, f .tables .second)
 
 -- src/lib.rt:187:5
 mark-all-requires : tie.Need-mark-all-requires
-mark-all-requires c κs = let f = told (c .before .before .before .before .before .before .before .before .before .before .before) in (f .sound, f .tables .second)
+mark-all-requires c κs =
+    let f = told (c .before .before .before .before .before .before .before .before .before .before .before .before .before) in
+    let k = c .before .before .before .before .before .before .tell-piece .kept .1 .1 .1 .1 .1 .0 in
+    let x = f .tables .second in
+    (f .sound, omega arith)
 
 -- src/lib.rt:189:9
 last-after-requires : tie.Need-last-after-requires
 last-after-requires c κs =
-    let f = told (c .before .before .before .before .before .before .before .before .before .before .before .before .before .before) in
+    let f = told (c .before .before .before .before .before .before .before .before .before .before .before .before .before .before .before .before) in
     let e = f .piece .count in
-    let few = parts (c .before .before .before .before .before .before .before .before .before .before .before .before .before .before .args .p) (f .sound) .fewChannels in
+    let few = parts (c .before .before .before .before .before .before .before .before .before .before .before .before .before .before .before .before .args .p) (f .sound) .fewChannels in
     omega arith
 
 -- src/lib.rt:191:16
-add-t21 : tie.Need-add-t21
-add-t21 c = let r = told (c .before .before .before .before .before .before .before .before .before .before .before .before .before .before .before .before) .room in omega arith
+add-t23 : tie.Need-add-t23
+add-t23 c = let r = told (c .before .before .before .before .before .before .before .before .before .before .before .before .before .before .before .before .before .before) .room in omega arith
 
 -- src/lib.rt:165:1
 same-length : tie.Need-same-length
@@ -65,18 +69,18 @@ same-length-4 c = search needs
 -- src/lib.rt:165:1
 returns : tie.Need-returns
 returns c =
-    let f = told (c .before .before .before .before .before .before .before .before .before .before .before .before .before .before .before .before) in
-    let new = c .before .before .before .before .before .before .before .before .before .before .before .before .before .before .is-new .ensures in
-    let o = c .before .before .before .before .before .before .before .before .before .before .tell-piece .ensures in
-    let a = c .before .before .before .before .before .before .before .before .before .before .before .before .before .before .before .before .args in (
+    let f = told (c .before .before .before .before .before .before .before .before .before .before .before .before .before .before .before .before .before .before) in
+    let new = c .before .before .before .before .before .before .before .before .before .before .before .before .before .before .before .before .is-new .ensures in
+    let o = c .before .before .before .before .before .before .before .before .before .before .before .tell-piece .ensures in
+    let a = c .before .before .before .before .before .before .before .before .before .before .before .before .before .before .before .before .before .before .args in (
       rw (c .before .last-after .ensures, f .piece .count),
       (
         o .0 ∙ ap (λ (x : Bool). written (a .p) (tableIn (a .p) x (a .values .now) (a .first .now) (a .duration)) (a .first .now)) new,
         (
-          c .before .before .before .before .mark-all .ensures,
+          c .before .before .before .before .mark-all .ensures ∙ o .1 .1 .1,
           (
             o .1 .0 ∙ ap (λ (x : Bool). scoresIn (a .p) x (a .values .now) (a .first .now) (a .duration) (a .scores .now)) new,
-            o .1 .1 ∙ ap (λ (x : Bool). lengthsIn (a .p) x (a .values .now) (a .first .now) (a .duration) (a .lengths .now)) new,
+            o .1 .1 .0 ∙ ap (λ (x : Bool). lengthsIn (a .p) x (a .values .now) (a .first .now) (a .duration) (a .lengths .now)) new,
           ),
         ),
       ),
@@ -90,7 +94,7 @@ feed-piece-spec =
     tell-piece-requires
     mark-all-requires
     last-after-requires
-    add-t21
+    add-t23
     same-length
     same-length-2
     same-length-3

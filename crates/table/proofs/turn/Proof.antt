@@ -1,6 +1,6 @@
 -- `turn` moves one worth along one edge: what its calls give is the move.
 use native.Mathlib.Omega.{arith}
-use mathlib.Core.Path.{sym, _∙_}
+use mathlib.Core.Path.{refl, sym, _∙_}
 use borrow.Author.Needs.{needs}
 use mir.Facts.{toZ-ofZ}
 use Rattle.cells.proofs.Digits.{reset-within}
@@ -37,20 +37,29 @@ offer-requires c κs = let st = c .before .before .before .before .before in
     let r = st .pre .2 in
     omega arith
 
+mul-flags : tie.Need-mul-flags
+mul-flags c = search needs
+
+slice-set-of-flags : tie.Need-slice-set-of-flags
+slice-set-of-flags c = search needs
+
 same-length : tie.Need-same-length
 same-length c = search needs
+
+same-length-2 : tie.Need-same-length-2
+same-length-2 c = search needs
 
 returns : tie.Need-returns
 returns c = let st = c .before .before .before .before .before .before .before in
     let a = st .args in
     let q = toZ-ofZ (st .fits .worth) in
     let h = sym (c .before .before .before .before .before .before .guards-hold .ensures) ∙ c .before .before .before .before .before .if1 .taken in
-    (sym h, moved-is (a .l) (a .w) (a .e) (a .to) (a .clocks) _ (a .worth) _ (a .table .now) _ h (c .before .before .before .before .after-resets .ensures) (c .before .before .before .code .ensures) (rw q at (c .before .offer .ensures)))
+    (sym h, (rw h refl, moved-is (a .l) (a .w) (a .e) (a .to) (a .clocks) _ (a .worth) _ (a .table .now) _ h (c .before .before .before .before .after-resets .ensures) (c .before .before .before .code .ensures) (rw q at (c .before .offer .ensures))))
 
 returns-2 : tie.Need-returns-2
 returns-2 c = let a = c .before .before .args in
     let h = sym (c .before .guards-hold .ensures) ∙ c .if1 .left in
-    (sym h, moved-no (a .l) (a .w) (a .e) (a .to) (a .clocks) (a .worth) (a .table .now) h)
+    (sym h, (rw h refl, moved-no (a .l) (a .w) (a .e) (a .to) (a .clocks) (a .worth) (a .table .now) h))
 
 pub turn-spec : {M : Type 1} → statement M
 turn-spec =
@@ -61,6 +70,9 @@ turn-spec =
     code-requires
     add-offer
     offer-requires
+    mul-flags
+    slice-set-of-flags
     same-length
+    same-length-2
     returns
     returns-2)

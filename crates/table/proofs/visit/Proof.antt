@@ -10,6 +10,7 @@ use Rattle.cells.specs.Index.{Placed}
 use Rattle.cells.proofs.Digits.{ticked-within}
 use Rattle.cells.proofs.Blocks.{block-in}
 use Rattle.table.proofs.Steps.{grown-fits, stay-is, sent-is}
+use Rattle.table.proofs.Flags.{flag-in, flag-of, block-lt, flagged-moved}
 use borrow.Author.Needs.{needs}
 use Rattle.table.proofs.visit.Statement.{statement}
 use Rattle.table.proofs.visit.Tie as tie
@@ -21,7 +22,7 @@ combine-requires : tie.Need-combine-requires
 combine-requires c κs = let st = c .before in
     let q = toZ-ofZ (st .fits .gain) in
     let p = toZ-ofZ (st .fits .worth) in
-    rw (p, q) (grown-fits (st .args .w) (st .args .worth) (st .args .gain) (st .pre .worth) (st .pre .gain))
+    rw (p, q) (grown-fits (st .args .w) (st .args .worth) (st .args .gain) (st .pre .0 .worth) (st .pre .0 .gain))
 
 cast-stay : tie.Need-cast-stay
 cast-stay c = search needs
@@ -35,30 +36,49 @@ add-block-at c = search needs
 block-at-requires : tie.Need-block-at-requires
 block-at-requires c κs = search needs
 
+add-flag-at : tie.Need-add-flag-at
+add-flag-at c = search needs
+
+flag-at-requires : tie.Need-flag-at-requires
+flag-at-requires c κs = search needs
+
 turn-requires : tie.Need-turn-requires
-turn-requires c κs = let st = c .before .before .before .before .before in
-    let h = st .pre in
+turn-requires c κs = let st = c .before .before .before .before .before .before .before in
+    let h = st .pre .0 in
     let low = h .low in
-    let e = c .before .before .before .before .tick-clocks .ensures in
+    let e = c .before .before .before .before .before .before .tick-clocks .ensures in
     let placed : Placed (st .args .l) (st .args .n + 1) 1 (st .args .p) = record { laid = h .laid; low = omega arith; stages = omega arith; place = h .place } in
     let i = block-in (st .args .l) (st .args .n + 1) 1 (st .args .p) placed in
+    let f = flag-in (st .args .l) (st .args .n + 1) 1 (st .args .p) placed in
+    let z = block-lt (st .args .l) _ (h .laid) f in
+    let y = st .pre .1 .long in
     let x = h .inside in
-    let to = c .before .block-at .ensures in
-    (h .laid, rw e (ticked-within (st .args .l) (st .args .clocks) (h .laid)), omega arith)
+    let to = c .before .before .before .block-at .ensures in
+    let flag = c .before .before .flag-at .ensures in
+    (h .laid, rw e (ticked-within (st .args .l) (st .args .clocks) (h .laid)), omega arith, omega arith)
 
 same-length : tie.Need-same-length
 same-length c = search needs
 
+same-length-2 : tie.Need-same-length-2
+same-length-2 c = search needs
+
 returns : tie.Need-returns
-returns c = let st = c .before .before .before .before .before .before .before in
+returns c = let st = c .before .before .before .before .before .before .before .before .before .before in
     let a = st .args in
-    let x = c .before .before .before .before .before .combine .result in
+    let h = st .pre .0 in
+    let low = h .low in
+    let x = c .before .before .before .before .before .before .before .before .combine .result in
     let q = toZ-ofZ (st .fits .gain) in
     let p = toZ-ofZ (st .fits .worth) in
-    let f : x ≡ weightingOf (a .w) .combine (a .worth) (a .gain) = rw (p, q) at (c .before .before .before .before .before .combine .ensures) in
-    let k : toZ w64 (ofZ w64 x) ≡ x = toZ-ofZ {w = w64} {z = x} (record { sfits = c .before .before .before .before .before .combine .ok }) in
-    let e = c .before .before .before .before .before .before .tick-clocks .ensures in
-    (sent-is (a .l) (a .w) (a .gain) (a .n) (a .p) (a .clocks) _ (a .worth) x _ e f k, stay-is (a .l) (a .w) (a .gain) (a .n) (a .p) (a .clocks) (a .worth) (a .table .now) _ x _ _ _ e f (c .before .before .before .before .stay .ensures) (c .before .before .before .block-at .ensures) (rw k at (c .before .turn .ensures .1)))
+    let f : x ≡ weightingOf (a .w) .combine (a .worth) (a .gain) = rw (p, q) at (c .before .before .before .before .before .before .before .before .combine .ensures) in
+    let k : toZ w64 (ofZ w64 x) ≡ x = toZ-ofZ {w = w64} {z = x} (record { sfits = c .before .before .before .before .before .before .before .before .combine .ok }) in
+    let e = c .before .before .before .before .before .before .before .before .before .tick-clocks .ensures in
+    let to = c .before .before .before .before .before .before .block-at .ensures in
+    let flag = c .before .before .before .before .before .flag-at .ensures in
+    let t = c .before .before .turn .ensures in
+    let placed : Placed (a .l) (a .n + 1) 1 (a .p) = record { laid = h .laid; low = omega arith; stages = omega arith; place = h .place } in
+    (sent-is (a .l) (a .w) (a .gain) (a .n) (a .p) (a .clocks) _ (a .worth) x _ e f k, (stay-is (a .l) (a .w) (a .gain) (a .n) (a .p) (a .clocks) (a .worth) (a .table .now) _ x _ _ _ e f (c .before .before .before .before .before .before .before .stay .ensures) to (rw k at (t .1 .1)), flagged-moved (a .l) (h .laid) (a .w) _ _ _ _ _ (a .table .now) (a .flags .now) _ _ (rw (to, flag) (flag-of (a .l) (a .n + 1) 1 (a .p) placed)) (rw e (ticked-within (a .l) (a .clocks) (h .laid))) (st .pre .1) (t .1 .1) (t .1 .0)))
 
 pub visit-spec : {M : Type 1} → statement M
 visit-spec =
@@ -70,6 +90,9 @@ visit-spec =
     stay-requires
     add-block-at
     block-at-requires
+    add-flag-at
+    flag-at-requires
     turn-requires
     same-length
+    same-length-2
     returns)
