@@ -1,4 +1,5 @@
--- What is proved of all steps together, and of what they print. The proofs are in proofs/Printed.antt.
+-- What is proved of all steps together, and of what they print. The proofs are in proofs/Printed.antt and
+-- proofs/Buffers.antt.
 use Prim.Native.Nat.{ℕ, _+_, _≤_, _<_}
 use mathlib.Core.Path.{_≡_}
 use mathlib.Core.List.{List, [], _∷_, _++_}
@@ -16,7 +17,7 @@ use Rattle.watch_text.specs.Shown.{feed, refusedText}
 use Rattle.watch_text.specs.Claims.{Shows}
 use Rattle.watch_steps.specs.declared.Watch.{Watch}
 use Rattle.watch_steps.specs.declared.Step.{Step}
-use Rattle.watch_steps.specs.Watch.{bookOfText, watchOf}
+use Rattle.watch_steps.specs.Watch.{bookOfText, watchOf, patternBuffer, recordBuffer}
 use Rattle.watch_steps.specs.Steps.{isDone, dueFor, stepsLeft, Standing, Stepped}
 
 -- ---- the steps, by the promises of `start` and `next`
@@ -98,3 +99,8 @@ RefusalsAlone =
     × ((p : Pattern) (r : Refusal) → readOf pattern ≡ accepted p → recordRefusal (p .channels) text ≡ some r → watchOf pattern text ≡ refusedText r)
     × ((p : Pattern) → readOf pattern ≡ accepted p → recordRefusal (p .channels) text ≡ none → 2_048 < cellsNeeded p
     → watchOf pattern text ≡ bytes "refused 11" ++ feed)
+
+-- The buffers that the files are read into are long enough: what is printed for the bytes in them is what is printed for the
+-- whole files, however long these are.
+abbrev pub BuffersSuffice : Type 0
+BuffersSuffice = (pattern text : Bytes) → watchOf (take patternBuffer pattern) (take recordBuffer text) ≡ watchOf pattern text
