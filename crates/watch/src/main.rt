@@ -10,6 +10,7 @@ ghost use mathlib.Core.Bool.{false};
 ghost use Prim.Native.Nat.{_≤_, _<_};
 ghost use lib.ListN.{length};
 ghost use Rattle.io.specs.Counts.{Counts};
+ghost use Rattle.watch_steps.specs.Watch.{patternBuffer, recordBuffer};
 ghost use Rattle.watch_steps.specs.Steps.{isDone, stepsLeft, Standing};
 
 // The bytes of a file, as many as the buffer takes; none if it cannot be opened.
@@ -51,19 +52,24 @@ fn show_all(text: &[u8], w: Watch, first: &mut [i64], second: &mut [i64], out: &
     }
 }
 
-fn show(pattern: &[u8], text: &[u8]) {
+// The lines for what was read: n bytes in the pattern's buffer, m in the record's. The sizes are those that show a text to be too
+// long (`watch_steps/specs/Claims` BuffersSuffice).
+fn show(pattern: &[u8], n: usize, text: &[u8], m: usize)
+    requires { ⌜ (length (now pattern) ≡ patternBuffer) × (Counts n (now pattern)) ⌝ }
+    requires { ⌜ (length (now text) ≡ recordBuffer) × (Counts m (now text)) ⌝ }
+{
+    let pieces = &text[..m];
     let mut first: [i64; 2048] = [0; 2048];
     let mut second: [i64; 2048] = [0; 2048];
     let mut out = io::buffer();
-    let w = start(pattern, text, &mut first, &mut second);
-    show_all(text, w, &mut first, &mut second, &mut out);
+    let w = start(&pattern[..n], pieces, &mut first, &mut second);
+    show_all(pieces, w, &mut first, &mut second, &mut out);
 }
 
 fn main() {
-    // one byte more than a text may have shows that it is too long
     let mut pattern = [0u8; 8193];
     let mut record = [0u8; 16385];
     let n = read_file(b"pattern.txt", &mut pattern);
     let m = read_file(b"record.txt", &mut record);
-    show(&pattern[..n], &record[..m]);
+    show(&pattern, n, &record, m);
 }
