@@ -1,102 +1,74 @@
-//! A second scorer for `watch`: it lists every run one by one.
-//!
-//! Written from document 01 (the scope paper) and the decisions recorded beside it, and from nothing
-//! else. It shares no code with the product. It has no tables, no ceilings of clocks and no states that
-//! stand for many runs: each run is a begin, its edges and its stays, listed and priced alone.
-//! Quoted sentences are document 01's.
-//!
-//!     scorer DIR                            answer for DIR/pattern.txt and DIR/record.txt
-//!     scorer --many CASES                   the answers to all cases, each after a line `=== NUMBER`
-//!     scorer --many CASES --expected OUT    the same, each into OUT/NUMBER/expected.txt
-//!     scorer --many CASES --stats           what occurs in the cases; status 1 if something is missing
+// A second scorer for the program `watch` of document 01 (bench margin monitor).
+//
+// It was written from document 01 alone, by hands that had not seen the
+// product's code. It has no monitor, no tables and no ceilings: for every end
+// it lists every run with real clocks, prices each one by the pricing rule, and
+// keeps the best, of equals the shortest. It is meant to be plainly right, and
+// is fast enough only for small windows and patterns.
+//
+// Use: scorer [folder]. The folder holds pattern.txt and record.txt.
 
-use std::collections::BTreeMap;
-use std::fmt::Write;
-use std::process::exit;
+use std::ffi::OsString;
+use std::fs::File;
+use std::io::{self, BufWriter, Read, Write};
+use std::path::{Path, PathBuf};
 
-// ------------------------------------------------------------------------------------------ the text
+// ---------------------------------------------------------------------------
+// The sizes and ranges of document 01
+// ---------------------------------------------------------------------------
 
-/// One bracket of a line, or one word in it. A numeral is a word here.
-enum Form<'a> {
-    Word(&'a [u8]),
-    Bracket(Vec<Form<'a>>),
+const PATTERN_BYTES: usize = 8_192;
+const RECORD_BYTES: usize = 16_384;
+const MOST_CHANNELS: i64 = 8;
+const MOST_CLOCKS: usize = 4;
+const MOST_WINDOW: i64 = 4_095;
+const MOST_PLACES: usize = 16;
+const MOST_TESTS: usize = 4;
+const MOST_EDGES: usize = 32;
+const MOST_GUARDS: usize = 4;
+const MOST_GUARD_BOUND: i64 = 1_000;
+/// Test bounds and record values lie between minus this and this.
+const MOST_VALUE: i64 = 1_000_000;
+const MOST_PIECES: usize = 4_096;
+const MOST_TICKS: i64 = 2_147_483_647;
+/// The worth of a stay without tests in margin: the source's infinity.
+const NO_TESTS: i64 = 2_000_001;
+/// The cells of each of the two tables of `watch`.
+const TABLE_CELLS: i128 = 2_048;
+
+// ---------------------------------------------------------------------------
+// Refusals: a refusal gives its number alone
+// ---------------------------------------------------------------------------
+
+#[derive(Clone, Copy)]
+struct Refusal(u8);
+
+/// 1: the text has too many bytes.
+const TOO_LONG: Refusal = Refusal(1);
+/// 2: the form is broken.
+const BROKEN_FORM: Refusal = Refusal(2);
+/// 3: a number outside its range.
+const OUT_OF_RANGE: Refusal = Refusal(3);
+/// 4: a place, edge, test or guard too many.
+const TOO_MANY: Refusal = Refusal(4);
+/// 5: an index that the pattern lacks, or a reset not above the one before it.
+const NO_SUCH_INDEX: Refusal = Refusal(5);
+/// 8: the record breaks its rules.
+const BAD_RECORD: Refusal = Refusal(8);
+/// 11: a table shorter than the cells needed.
+const SHORT_TABLE: Refusal = Refusal(11);
+
+// ---------------------------------------------------------------------------
+// Pattern
+// ---------------------------------------------------------------------------
+
+#[derive(Clone, Copy)]
+enum Weighting {
+    Margin,
+    Sum,
 }
 
-/// "Nested brackets, one form a line, [...] single spaces exactly as shown": the whole line is one
-/// bracket, its parts are parted by one space each, and no space stands inside next to a bracket.
-fn read_form(line: &[u8]) -> Option<Vec<Form<'_>>> {
-    let mut at = 0;
-    let parts = read_bracket(line, &mut at, 1)?;
-    if at == line.len() { Some(parts) } else { None }
-}
-
-fn read_bracket<'a>(line: &'a [u8], at: &mut usize, depth: usize) -> Option<Vec<Form<'a>>> {
-    // No line shown has a bracket inside a bracket inside a bracket.
-    if line.get(*at) != Some(&b'(') || depth > 2 {
-        return None;
-    }
-    let mut parts = Vec::new();
-    loop {
-        *at += 1; // the opening bracket, or the space before a further part
-        if line.get(*at) == Some(&b'(') {
-            parts.push(Form::Bracket(read_bracket(line, at, depth + 1)?));
-        } else {
-            let from = *at;
-            while line.get(*at).is_some_and(|byte| !b" ()".contains(byte)) {
-                *at += 1;
-            }
-            if from == *at {
-                return None;
-            }
-            parts.push(Form::Word(&line[from..*at]));
-        }
-        match line.get(*at) {
-            Some(b' ') => {}
-            Some(b')') => {
-                *at += 1;
-                return Some(parts);
-            }
-            _ => return None,
-        }
-    }
-}
-
-/// The lines of a text. "each line ended by a line feed": a last line without one is `None`.
-fn lines(text: &[u8]) -> Vec<Option<&[u8]>> {
-    text.split_inclusive(|byte| *byte == b'\n').map(|line| line.strip_suffix(b"\n")).collect()
-}
-
-/// "A number is `0` or digits without a leading zero. A minus may stand only in a test's bound and only
-/// before a non-zero number." A number of more than 18 digits is beyond every range and every index that
-/// the paper has, so any number that long may stand for it.
-fn number(form: &Form, minus_may_stand: bool) -> Option<i64> {
-    let Form::Word(word) = form else { return None };
-    let (negative, digits) = match word.strip_prefix(b"-") {
-        Some(rest) if minus_may_stand => (true, rest),
-        Some(_) => return None,
-        None => (false, *word),
-    };
-    if digits.is_empty() || !digits.iter().all(u8::is_ascii_digit) {
-        return None;
-    }
-    if digits[0] == b'0' && (digits.len() > 1 || negative) {
-        return None;
-    }
-    let size = if digits.len() > 18 {
-        i64::MAX
-    } else {
-        digits.iter().fold(0, |size, digit| 10 * size + i64::from(digit - b'0'))
-    };
-    Some(if negative { -size } else { size })
-}
-
-fn numbers(forms: &[Form]) -> Option<Vec<i64>> {
-    forms.iter().map(|form| number(form, false)).collect()
-}
-
-// --------------------------------------------------------------------------------------- the pattern
-
-#[derive(Clone, Copy, PartialEq)]
+#[derive(Clone, Copy)]
 enum Sign {
     Less,
     LessOrEqual,
@@ -104,951 +76,669 @@ enum Sign {
     GreaterOrEqual,
 }
 
-/// A test (of a channel) or a guard (of a clock): "a sign `<`, `<=`, `>`, `>=`", an index, and a bound.
-struct Condition {
+/// A test of a place: a sign, a channel and a bound.
+struct Test {
     sign: Sign,
-    index: usize,
+    channel: usize,
     bound: i64,
 }
 
 struct Place {
     start: bool,
     end: bool,
-    tests: Vec<Condition>,
+    tests: Vec<Test>,
+}
+
+/// A guard of an edge: a sign, a clock and a bound.
+struct Guard {
+    sign: Sign,
+    clock: usize,
+    bound: i64,
 }
 
 struct Edge {
     from: usize,
     to: usize,
-    guards: Vec<Condition>,
+    guards: Vec<Guard>,
     resets: Vec<usize>,
 }
 
 struct Pattern {
-    sum: bool,
+    weighting: Weighting,
     channels: usize,
     clocks: usize,
-    low: u64,
-    high: u64,
+    low: i64,
+    high: i64,
     places: Vec<Place>,
     edges: Vec<Edge>,
 }
 
-/// What is wrong on a line whose form is whole. "the first faulty line decides, and on it: 2, the form
-/// is broken [...]; 4, a place, edge, test or guard too many; 3, a number outside its range; 5, an index
-/// that the pattern lacks, or a reset not above the one before it." The order is 2, 4, 3, 5 whatever
-/// stands first on the line.
-#[derive(Default)]
-struct Faults {
-    too_many: bool,
-    out_of_range: bool,
-    no_such_index: bool,
+// ---------------------------------------------------------------------------
+// The form of a line
+// ---------------------------------------------------------------------------
+
+/// What is left to read of one line (its line feed is already taken away).
+struct Line<'a> {
+    rest: &'a [u8],
 }
 
-impl Faults {
-    fn judge(&self) -> Result<(), u8> {
-        match self {
-            Faults { too_many: true, .. } => Err(4),
-            Faults { out_of_range: true, .. } => Err(3),
-            Faults { no_such_index: true, .. } => Err(5),
-            _ => Ok(()),
+impl Line<'_> {
+    /// Words, brackets and single spaces are matched byte for byte.
+    /// Takes `word` if the line goes on with it, and says whether it did.
+    fn takes(&mut self, word: &[u8]) -> bool {
+        match self.rest.strip_prefix(word) {
+            Some(rest) => {
+                self.rest = rest;
+                true
+            }
+            None => false,
         }
     }
 
-    fn range(&mut self, number: i64, least: i64, most: i64) {
-        self.out_of_range |= number < least || number > most;
+    /// As `takes`, where anything else breaks the form.
+    fn expects(&mut self, word: &[u8]) -> Result<(), Refusal> {
+        if self.takes(word) { Ok(()) } else { Err(BROKEN_FORM) }
     }
 
-    fn index(&mut self, number: i64, count: usize) {
-        self.no_such_index |= number >= count as i64;
+    /// Nothing may stand after the form's last bracket.
+    fn expects_end(&self) -> Result<(), Refusal> {
+        if self.rest.is_empty() { Ok(()) } else { Err(BROKEN_FORM) }
     }
-}
 
-/// The form of a test or a guard alone: sign, index, bound.
-fn condition(form: &Form, minus_may_stand: bool) -> Option<(Sign, i64, i64)> {
-    let Form::Bracket(parts) = form else { return None };
-    let [Form::Word(sign), index, bound] = &parts[..] else { return None };
-    let sign = match *sign {
-        b"<" => Sign::Less,
-        b"<=" => Sign::LessOrEqual,
-        b">" => Sign::Greater,
-        b">=" => Sign::GreaterOrEqual,
-        _ => return None,
-    };
-    Some((sign, number(index, false)?, number(bound, minus_may_stand)?))
-}
-
-/// Tests or guards whose line has been judged good.
-fn conditions(parts: &[(Sign, i64, i64)]) -> Vec<Condition> {
-    parts.iter().map(|&(sign, index, bound)| Condition { sign, index: index as usize, bound }).collect()
-}
-
-/// "Line 1: `margin` or `sum`; channels 1 to 8; clocks 0 to 4; the window's low, 1 to 4,095; its high,
-/// low to 4,095."
-fn read_header(line: &[u8], faults: &mut Faults) -> Result<Pattern, u8> {
-    let form = || -> Option<(bool, Vec<i64>)> {
-        let parts = read_form(line)?;
-        let [Form::Word(b"pattern"), Form::Word(weighting), rest @ ..] = &parts[..] else { return None };
-        let sum = match *weighting {
-            b"margin" => false,
-            b"sum" => true,
-            _ => return None,
-        };
-        let rest = numbers(rest)?;
-        if rest.len() == 4 { Some((sum, rest)) } else { None }
-    };
-    let (sum, numbers) = form().ok_or(2)?;
-    faults.range(numbers[0], 1, 8);
-    faults.range(numbers[1], 0, 4);
-    faults.range(numbers[2], 1, 4_095);
-    faults.range(numbers[3], numbers[2], 4_095);
-    faults.judge()?;
-    Ok(Pattern {
-        sum,
-        channels: numbers[0] as usize,
-        clocks: numbers[1] as usize,
-        low: numbers[2] as u64,
-        high: numbers[3] as u64,
-        places: Vec::new(),
-        edges: Vec::new(),
-    })
-}
-
-/// "1 to 16 places: `start`, `plain`, `end` or `both` (start and end), with 0 to 4 tests. A test is a
-/// sign [...], a channel, and a bound from -1,000,000 to 1,000,000."
-fn read_place(parts: &[Form], pattern: &Pattern, faults: &mut Faults) -> Result<Place, u8> {
-    let form = || -> Option<(bool, bool, Vec<(Sign, i64, i64)>)> {
-        let [Form::Word(kind), tests @ ..] = parts else { return None };
-        let (start, end) = match *kind {
-            b"start" => (true, false),
-            b"plain" => (false, false),
-            b"end" => (false, true),
-            b"both" => (true, true),
-            _ => return None,
-        };
-        let tests = tests.iter().map(|test| condition(test, true)).collect::<Option<Vec<_>>>()?;
-        Some((start, end, tests))
-    };
-    let (start, end, tests) = form().ok_or(2)?;
-    faults.too_many = pattern.places.len() == 16 || tests.len() > 4;
-    for (_, channel, bound) in &tests {
-        faults.range(*bound, -1_000_000, 1_000_000);
-        faults.index(*channel, pattern.channels);
+    /// A number is `0` or digits without a leading zero, of any length.
+    /// One that passes i64 is held at i64's greatest value, which is outside
+    /// every range of document 01 and no index of any pattern.
+    fn number(&mut self) -> Result<i64, Refusal> {
+        let digits = self.rest.iter().take_while(|byte| byte.is_ascii_digit()).count();
+        let (number, rest) = self.rest.split_at(digits);
+        if number.is_empty() || (number.len() > 1 && number.starts_with(b"0")) {
+            return Err(BROKEN_FORM);
+        }
+        self.rest = rest;
+        let mut value: i64 = 0;
+        for digit in number {
+            value = value.saturating_mul(10).saturating_add(i64::from(digit - b'0'));
+        }
+        Ok(value)
     }
-    faults.judge()?;
-    Ok(Place { start, end, tests: conditions(&tests) })
-}
 
-/// "0 to 32 edges: from, to, 0 to 4 guards (a sign, a clock, a bound 0 to 1,000), then resets, at least
-/// one clock, rising, or no bracket at all."
-fn read_edge(parts: &[Form], pattern: &Pattern, faults: &mut Faults) -> Result<Edge, u8> {
-    let form = || -> Option<(i64, i64, Vec<(Sign, i64, i64)>, Vec<i64>)> {
-        let [from, to, rest @ ..] = parts else { return None };
-        let (guards, resets) = match rest.split_last() {
-            Some((Form::Bracket(last), guards)) if matches!(last[0], Form::Word(b"reset")) => {
-                (guards, numbers(&last[1..]).filter(|resets| !resets.is_empty())?)
-            }
-            _ => (rest, Vec::new()),
-        };
-        let guards = guards.iter().map(|guard| condition(guard, false)).collect::<Option<Vec<_>>>()?;
-        Some((number(from, false)?, number(to, false)?, guards, resets))
-    };
-    let (from, to, guards, resets) = form().ok_or(2)?;
-    faults.too_many = pattern.edges.len() == 32 || guards.len() > 4;
-    faults.index(from, pattern.places.len());
-    faults.index(to, pattern.places.len());
-    for (_, clock, bound) in &guards {
-        faults.range(*bound, 0, 1_000);
-        faults.index(*clock, pattern.clocks);
-    }
-    for clock in &resets {
-        faults.index(*clock, pattern.clocks);
-    }
-    faults.no_such_index |= resets.windows(2).any(|pair| pair[1] <= pair[0]);
-    faults.judge()?;
-    Ok(Edge {
-        from: from as usize,
-        to: to as usize,
-        guards: conditions(&guards),
-        resets: resets.iter().map(|clock| *clock as usize).collect(),
-    })
-}
-
-/// "1: over 8,192 bytes. Then the first faulty line decides". "empty text, missing line feed, a line of
-/// the wrong kind, as a place after an edge, and no place at all included" are broken form.
-fn read_pattern(text: &[u8], faults: &mut Faults) -> Result<Pattern, u8> {
-    if text.len() > 8_192 {
-        return Err(1);
-    }
-    let lines = lines(text);
-    let [header, rest @ ..] = &lines[..] else { return Err(2) };
-    let mut pattern = read_header(header.ok_or(2)?, faults)?;
-    for line in rest {
-        let parts = line.and_then(read_form).ok_or(2)?;
-        match &parts[..] {
-            [Form::Word(b"place"), parts @ ..] if pattern.edges.is_empty() => {
-                let place = read_place(parts, &pattern, faults)?;
-                pattern.places.push(place);
-            }
-            [Form::Word(b"edge"), parts @ ..] if !pattern.places.is_empty() => {
-                let edge = read_edge(parts, &pattern, faults)?;
-                pattern.edges.push(edge);
-            }
-            _ => return Err(2),
+    /// A test's bound or a record's value: a number, where a minus may stand
+    /// before a non-zero one.
+    fn number_or_minus(&mut self) -> Result<i64, Refusal> {
+        let minus = self.takes(b"-");
+        let value = self.number()?;
+        match (minus, value) {
+            (true, 0) => Err(BROKEN_FORM),
+            (true, value) => Ok(-value),
+            (false, value) => Ok(value),
         }
     }
-    if pattern.places.is_empty() { Err(2) } else { Ok(pattern) }
+
+    /// One of the four signs `<`, `<=`, `>`, `>=`.
+    fn sign(&mut self) -> Result<Sign, Refusal> {
+        if self.takes(b"<=") {
+            Ok(Sign::LessOrEqual)
+        } else if self.takes(b"<") {
+            Ok(Sign::Less)
+        } else if self.takes(b">=") {
+            Ok(Sign::GreaterOrEqual)
+        } else if self.takes(b">") {
+            Ok(Sign::Greater)
+        } else {
+            Err(BROKEN_FORM)
+        }
+    }
 }
 
-/// "The ceiling of a clock is 1 + its largest guard bound (1 if it has no guard). Cells needed:
-/// (high + 1) × 2 × places × the product over clocks of (ceiling + 1)." Only refusal 11 asks for it.
-fn cells_needed(pattern: &Pattern) -> u64 {
-    let mut cells = (pattern.high + 1) * 2 * pattern.places.len() as u64;
+/// Each line is ended by a line feed. Takes the next line off the text; an
+/// empty text and a missing line feed break the form.
+fn take_line<'a>(text: &mut &'a [u8]) -> Result<Line<'a>, Refusal> {
+    let all: &'a [u8] = text;
+    match all.iter().position(|byte| *byte == b'\n') {
+        Some(at) => {
+            *text = &all[at + 1..];
+            Ok(Line { rest: &all[..at] })
+        }
+        None => Err(BROKEN_FORM),
+    }
+}
+
+/// Does the number lie in the range, both ends included?
+fn in_range(number: i64, least: i64, most: i64) -> bool {
+    least <= number && number <= most
+}
+
+/// Places, channels, clocks and edges count from 0. Gives the index if the
+/// pattern has it, that is if it is below the count, else refusal 5.
+fn index(number: i64, count: usize) -> Result<usize, Refusal> {
+    match usize::try_from(number) {
+        Ok(index) if index < count => Ok(index),
+        _ => Err(NO_SUCH_INDEX),
+    }
+}
+
+// ---------------------------------------------------------------------------
+// Reading a pattern
+// ---------------------------------------------------------------------------
+
+/// Read a pattern. 1: over 8,192 bytes. Then the first faulty line decides, and
+/// on it 2 comes before 4, 4 before 3, 3 before 5. Line 1 is the pattern line,
+/// then come 1 or more places, then edges; a line of the wrong kind and no
+/// place at all break the form.
+fn read_pattern(text: &[u8]) -> Result<Pattern, Refusal> {
+    if text.len() > PATTERN_BYTES {
+        return Err(TOO_LONG);
+    }
+    let mut text = text;
+    let mut pattern = read_pattern_line(take_line(&mut text)?)?;
+    while !text.is_empty() {
+        let mut line = take_line(&mut text)?;
+        if line.takes(b"(place ") {
+            if !pattern.edges.is_empty() {
+                return Err(BROKEN_FORM); // a place after an edge
+            }
+            let place = read_place_line(line, &pattern)?;
+            pattern.places.push(place);
+        } else if line.takes(b"(edge ") {
+            if pattern.places.is_empty() {
+                return Err(BROKEN_FORM); // an edge where the first place is due
+            }
+            let edge = read_edge_line(line, &pattern)?;
+            pattern.edges.push(edge);
+        } else {
+            return Err(BROKEN_FORM); // a line of no kind that may stand here
+        }
+    }
+    if pattern.places.is_empty() {
+        return Err(BROKEN_FORM); // no place at all
+    }
+    Ok(pattern)
+}
+
+/// Line 1: `margin` or `sum`; channels 1 to 8; clocks 0 to 4; the window's low,
+/// 1 to 4,095; its high, low to 4,095.
+fn read_pattern_line(mut line: Line) -> Result<Pattern, Refusal> {
+    // 2
+    line.expects(b"(pattern ")?;
+    let weighting = if line.takes(b"margin ") {
+        Weighting::Margin
+    } else if line.takes(b"sum ") {
+        Weighting::Sum
+    } else {
+        return Err(BROKEN_FORM);
+    };
+    let channels = line.number()?;
+    line.expects(b" ")?;
+    let clocks = line.number()?;
+    line.expects(b" ")?;
+    let low = line.number()?;
+    line.expects(b" ")?;
+    let high = line.number()?;
+    line.expects(b")")?;
+    line.expects_end()?;
+    // 3
+    let clocks = usize::try_from(clocks).map_err(|_| OUT_OF_RANGE)?;
+    if !in_range(channels, 1, MOST_CHANNELS)
+        || clocks > MOST_CLOCKS
+        || !in_range(low, 1, MOST_WINDOW)
+        || !in_range(high, low, MOST_WINDOW)
+    {
+        return Err(OUT_OF_RANGE);
+    }
+    let channels = usize::try_from(channels).map_err(|_| OUT_OF_RANGE)?;
+    Ok(Pattern { weighting, channels, clocks, low, high, places: Vec::new(), edges: Vec::new() })
+}
+
+/// A place: `start`, `plain`, `end` or `both` (start and end), with 0 to 4
+/// tests. A test is a sign, a channel, and a bound from -1,000,000 to
+/// 1,000,000. At most 16 places. `(place ` is already taken off the line.
+fn read_place_line(mut line: Line, pattern: &Pattern) -> Result<Place, Refusal> {
+    // 2
+    let (start, end) = if line.takes(b"start") {
+        (true, false)
+    } else if line.takes(b"plain") {
+        (false, false)
+    } else if line.takes(b"end") {
+        (false, true)
+    } else if line.takes(b"both") {
+        (true, true)
+    } else {
+        return Err(BROKEN_FORM);
+    };
+    let mut read: Vec<(Sign, i64, i64)> = Vec::new();
+    while line.takes(b" (") {
+        let sign = line.sign()?;
+        line.expects(b" ")?;
+        let channel = line.number()?;
+        line.expects(b" ")?;
+        let bound = line.number_or_minus()?;
+        line.expects(b")")?;
+        read.push((sign, channel, bound));
+    }
+    line.expects(b")")?;
+    line.expects_end()?;
+    // 4
+    if pattern.places.len() >= MOST_PLACES || read.len() > MOST_TESTS {
+        return Err(TOO_MANY);
+    }
+    // 3
+    if read.iter().any(|(_, _, bound)| !in_range(*bound, -MOST_VALUE, MOST_VALUE)) {
+        return Err(OUT_OF_RANGE);
+    }
+    // 5
+    let mut tests = Vec::new();
+    for (sign, channel, bound) in read {
+        tests.push(Test { sign, channel: index(channel, pattern.channels)?, bound });
+    }
+    Ok(Place { start, end, tests })
+}
+
+/// An edge: from, to, 0 to 4 guards (a sign, a clock, a bound 0 to 1,000), then
+/// resets, at least one clock, rising, or no bracket at all. At most 32 edges.
+/// `(edge ` is already taken off the line.
+fn read_edge_line(mut line: Line, pattern: &Pattern) -> Result<Edge, Refusal> {
+    // 2
+    let from = line.number()?;
+    line.expects(b" ")?;
+    let to = line.number()?;
+    let mut read: Vec<(Sign, i64, i64)> = Vec::new();
+    let mut reset: Vec<i64> = Vec::new();
+    while line.takes(b" (") {
+        if line.takes(b"reset") {
+            line.expects(b" ")?;
+            reset.push(line.number()?);
+            while line.takes(b" ") {
+                reset.push(line.number()?);
+            }
+            line.expects(b")")?;
+            break; // the resets come last
+        }
+        let sign = line.sign()?;
+        line.expects(b" ")?;
+        let clock = line.number()?;
+        line.expects(b" ")?;
+        let bound = line.number()?;
+        line.expects(b")")?;
+        read.push((sign, clock, bound));
+    }
+    line.expects(b")")?;
+    line.expects_end()?;
+    // 4
+    if pattern.edges.len() >= MOST_EDGES || read.len() > MOST_GUARDS {
+        return Err(TOO_MANY);
+    }
+    // 3
+    if read.iter().any(|(_, _, bound)| !in_range(*bound, 0, MOST_GUARD_BOUND)) {
+        return Err(OUT_OF_RANGE);
+    }
+    // 5
+    let from = index(from, pattern.places.len())?;
+    let to = index(to, pattern.places.len())?;
+    let mut guards = Vec::new();
+    for (sign, clock, bound) in read {
+        guards.push(Guard { sign, clock: index(clock, pattern.clocks)?, bound });
+    }
+    let mut resets: Vec<usize> = Vec::new();
+    for clock in reset {
+        let clock = index(clock, pattern.clocks)?;
+        if resets.last().is_some_and(|before| clock <= *before) {
+            return Err(NO_SUCH_INDEX); // a reset not above the one before it
+        }
+        resets.push(clock);
+    }
+    Ok(Edge { from, to, guards, resets })
+}
+
+// ---------------------------------------------------------------------------
+// Record
+// ---------------------------------------------------------------------------
+
+/// A joined piece: its values hold from time `from` to time `until`.
+struct Piece {
+    from: i64,
+    until: i64,
+    values: Vec<i64>,
+}
+
+/// The record's text: lines as `(piece 2 10)`, duration then one or more
+/// values, a minus in values only and as in a bound. Over 16,384 bytes is 1, a
+/// broken form anywhere 2, then 8, a wrong count of values included. An empty
+/// record has no pieces.
+fn read_record(text: &[u8], channels: usize) -> Result<Vec<Piece>, Refusal> {
+    if text.len() > RECORD_BYTES {
+        return Err(TOO_LONG);
+    }
+    let mut text = text;
+    let mut read: Vec<(i64, Vec<i64>)> = Vec::new();
+    while !text.is_empty() {
+        read.push(read_piece_line(take_line(&mut text)?)?);
+    }
+    judge_record(&read, channels)?;
+    Ok(join(read))
+}
+
+/// The form of one line of the record.
+fn read_piece_line(mut line: Line) -> Result<(i64, Vec<i64>), Refusal> {
+    line.expects(b"(piece ")?;
+    let duration = line.number()?;
+    line.expects(b" ")?;
+    let mut values = vec![line.number_or_minus()?];
+    while line.takes(b" ") {
+        values.push(line.number_or_minus()?);
+    }
+    line.expects(b")")?;
+    line.expects_end()?;
+    Ok((duration, values))
+}
+
+/// A record is up to 4,096 pieces: a duration of at least 1 tick and one value
+/// per channel, -1,000,000 to 1,000,000. The durations total at most
+/// 2,147,483,647. Else refusal 8.
+fn judge_record(pieces: &[(i64, Vec<i64>)], channels: usize) -> Result<(), Refusal> {
+    if pieces.len() > MOST_PIECES {
+        return Err(BAD_RECORD);
+    }
+    let mut total: i128 = 0;
+    for (duration, values) in pieces {
+        total += i128::from(*duration);
+        if *duration < 1
+            || total > i128::from(MOST_TICKS)
+            || values.len() != channels
+            || values.iter().any(|value| !in_range(*value, -MOST_VALUE, MOST_VALUE))
+        {
+            return Err(BAD_RECORD);
+        }
+    }
+    Ok(())
+}
+
+/// Neighbouring pieces with equal values in every channel are one piece.
+fn join(pieces: Vec<(i64, Vec<i64>)>) -> Vec<Piece> {
+    let mut joined: Vec<Piece> = Vec::new();
+    let mut now: i64 = 0;
+    for (duration, values) in pieces {
+        let from = now;
+        now += duration;
+        match joined.last_mut() {
+            Some(before) if before.values == values => before.until = now,
+            _ => joined.push(Piece { from, until: now, values }),
+        }
+    }
+    joined
+}
+
+/// The record's end: the total of its durations.
+fn total_ticks(record: &[Piece]) -> i64 {
+    record.last().map_or(0, |piece| piece.until)
+}
+
+// ---------------------------------------------------------------------------
+// Runs
+// ---------------------------------------------------------------------------
+
+/// One step of a run: the stay in the edge's from place from one time to a
+/// later one, and the edge then taken.
+struct Step<'a> {
+    edge: &'a Edge,
+    from: i64,
+    until: i64,
+}
+
+type Clocks = [i64; MOST_CLOCKS];
+
+/// Does the guard hold of these clocks?
+fn holds(guard: &Guard, clocks: &Clocks) -> bool {
+    let clock = clocks[guard.clock];
+    match guard.sign {
+        Sign::Less => clock < guard.bound,
+        Sign::LessOrEqual => clock <= guard.bound,
+        Sign::Greater => clock > guard.bound,
+        Sign::GreaterOrEqual => clock >= guard.bound,
+    }
+}
+
+/// A run over begin b to end e enters a start place at b, all clocks 0. Shows
+/// every run from `begin` to `end` to `visit`, until that says false.
+fn list_runs(pattern: &Pattern, begin: i64, end: i64, visit: &mut dyn FnMut(&[Step]) -> bool) {
+    for (place, of_start) in pattern.places.iter().enumerate() {
+        let mut run: Vec<Step> = Vec::new();
+        if of_start.start
+            && !list_steps(pattern, place, [0; MOST_CLOCKS], begin, end, &mut run, visit)
+        {
+            return;
+        }
+    }
+}
+
+/// Each step stays at least 1 tick, every clock growing with it; then takes an
+/// edge out of that place whose guards all hold; then sets the edge's reset
+/// clocks to 0. The last edge enters an end place at e exactly. Goes on in
+/// every way from a place just entered at the time `now`, the steps before it
+/// being `run`; gives false once `visit` has.
+fn list_steps<'a>(
+    pattern: &'a Pattern,
+    place: usize,
+    clocks: Clocks,
+    now: i64,
+    end: i64,
+    run: &mut Vec<Step<'a>>,
+    visit: &mut dyn FnMut(&[Step]) -> bool,
+) -> bool {
+    for until in now + 1..=end {
+        let grown = clocks.map(|clock| clock + (until - now));
+        for edge in &pattern.edges {
+            if edge.from != place || !edge.guards.iter().all(|guard| holds(guard, &grown)) {
+                continue;
+            }
+            let mut after = grown;
+            for clock in &edge.resets {
+                after[*clock] = 0;
+            }
+            run.push(Step { edge, from: now, until });
+            let go_on = if until < end {
+                list_steps(pattern, edge.to, after, until, end, run, visit)
+            } else if pattern.places[edge.to].end {
+                visit(run)
+            } else {
+                true
+            };
+            run.pop();
+            if !go_on {
+                return false;
+            }
+        }
+    }
+    true
+}
+
+// ---------------------------------------------------------------------------
+// Pricing
+// ---------------------------------------------------------------------------
+
+/// A test's distance is value - bound for `>` and `>=`, bound - value for `<`
+/// and `<=`; it may be negative, and strict signs measure like the others.
+fn distance(test: &Test, values: &[i64]) -> i64 {
+    let value = values[test.channel];
+    match test.sign {
+        Sign::Greater | Sign::GreaterOrEqual => value - test.bound,
+        Sign::Less | Sign::LessOrEqual => test.bound - value,
+    }
+}
+
+/// The joined pieces that a stay touches: those that share a tick with it.
+fn touched(record: &[Piece], from: i64, until: i64) -> &[Piece] {
+    let first = record.partition_point(|piece| piece.until <= from);
+    let after = record.partition_point(|piece| piece.from < until);
+    record.get(first..after).unwrap_or(&[])
+}
+
+/// In margin a stay is worth the least distance over its tests and the pieces
+/// it touches; a stay without tests is worth 2,000,001. In sum a stay adds up
+/// the distances of all its tests, once per joined piece it touches.
+fn stay_worth(pattern: &Pattern, record: &[Piece], step: &Step) -> i64 {
+    let tests = &pattern.places[step.edge.from].tests;
+    let pieces = touched(record, step.from, step.until);
+    let distances =
+        pieces.iter().flat_map(|piece| tests.iter().map(|test| distance(test, &piece.values)));
+    match pattern.weighting {
+        Weighting::Margin => distances.min().unwrap_or(NO_TESTS),
+        Weighting::Sum => distances.sum(),
+    }
+}
+
+/// In margin a run is worth the least of its stays; in sum a run adds its stays.
+fn run_worth(pattern: &Pattern, record: &[Piece], run: &[Step]) -> i64 {
+    let stays = run.iter().map(|step| stay_worth(pattern, record, step));
+    match pattern.weighting {
+        Weighting::Margin => stays.min().unwrap_or(NO_TESTS),
+        Weighting::Sum => stays.sum(),
+    }
+}
+
+/// In margin the greatest run is best; in sum the least is best.
+fn better(weighting: Weighting, this: i64, that: i64) -> bool {
+    match weighting {
+        Weighting::Margin => this > that,
+        Weighting::Sum => this < that,
+    }
+}
+
+// ---------------------------------------------------------------------------
+// The cells needed
+// ---------------------------------------------------------------------------
+
+/// The ceiling of a clock is 1 + its largest guard bound (1 if it has no
+/// guard). Cells needed: (high + 1) x 2 x places x the product over clocks of
+/// (ceiling + 1). Only refusal 11 asks for this; the runs have real clocks.
+fn cells_needed(pattern: &Pattern) -> i128 {
+    // At most 4,096 x 2 x 16 x 1,002^4, far below i128's greatest.
+    let mut cells = (i128::from(pattern.high) + 1) * 2 * (pattern.places.len() as i128);
     for clock in 0..pattern.clocks {
-        cells *= 1 + largest_bound(pattern, clock) + 1;
+        let guards = pattern.edges.iter().flat_map(|edge| edge.guards.iter());
+        let largest = guards.filter(|guard| guard.clock == clock).map(|guard| guard.bound).max();
+        let ceiling = largest.map_or(1, |bound| 1 + bound);
+        cells *= i128::from(ceiling) + 1;
     }
     cells
 }
 
-fn largest_bound(pattern: &Pattern, clock: usize) -> u64 {
-    let guards = pattern.edges.iter().flat_map(|edge| &edge.guards);
-    guards.filter(|guard| guard.index == clock).map(|guard| guard.bound as u64).max().unwrap_or(0)
-}
+// ---------------------------------------------------------------------------
+// The best run of an end, and the ends that have one
+// ---------------------------------------------------------------------------
 
-// ---------------------------------------------------------------------------------------- the record
-
-/// A piece, with the times where it begins and ends.
-#[derive(Clone)]
-struct Piece {
-    from: u64,
-    to: u64,
-    values: Vec<i64>,
-}
-
-/// "lines as `(piece 2 10)`, duration then one or more values, a minus in values only and as in a bound;
-/// over 16,384 bytes is 1, a broken form anywhere 2, then 8, a wrong count of values included". The
-/// pieces are still as they were cut.
-fn read_record(text: &[u8], channels: usize) -> Result<Vec<Piece>, u8> {
-    if text.len() > 16_384 {
-        return Err(1);
-    }
-    let mut pieces = Vec::new();
-    for line in lines(text) {
-        let form = || -> Option<(i64, Vec<i64>)> {
-            let parts = read_form(line?)?;
-            let [Form::Word(b"piece"), duration, values @ ..] = &parts[..] else { return None };
-            let values = values.iter().map(|value| number(value, true)).collect::<Option<Vec<_>>>()?;
-            if values.is_empty() { None } else { Some((number(duration, false)?, values)) }
-        };
-        pieces.push(form().ok_or(2)?);
-    }
-    // "A record is up to 4,096 pieces: a duration of at least 1 tick and one value per channel,
-    // -1,000,000 to 1,000,000. The durations total at most 2,147,483,647."
-    if pieces.len() > 4_096 {
-        return Err(8);
-    }
-    let mut record = Vec::new();
-    let mut now = 0;
-    for (duration, values) in pieces {
-        let in_range = values.iter().all(|value| (-1_000_000..=1_000_000).contains(value));
-        if !(1..=2_147_483_647).contains(&duration) || values.len() != channels || !in_range {
-            return Err(8);
-        }
-        record.push(Piece { from: now, to: now + duration as u64, values });
-        now += duration as u64;
-    }
-    if now > 2_147_483_647 { Err(8) } else { Ok(record) }
-}
-
-/// "Neighbouring pieces with equal values in every channel are one piece".
-fn joined(record: &[Piece], equal: impl Fn(&Piece, &Piece) -> bool) -> Vec<Piece> {
-    let mut pieces: Vec<Piece> = Vec::new();
-    for piece in record {
-        match pieces.last_mut() {
-            Some(last) if equal(last, piece) => last.to = piece.to,
-            _ => pieces.push(piece.clone()),
-        }
-    }
-    pieces
-}
-
-// ------------------------------------------------------------------------------------------ the runs
-
-/// Readings of the paper that are wrong. The answers never use them (`Right` is the paper); the
-/// statistics do, to measure how many cases would tell a program that made the slip from a right one.
-#[derive(Clone, Copy, Debug, PartialEq)]
-enum Slip {
-    Right,
-    EveryTickCounts,     // "Counting a long piece once per tick in sum."
-    CeilingAtBound,      // "A ceiling at the largest bound itself"
-    EdgesWithoutStay,    // "Two edges in a row without a stay."
-    ResetBeforeGuards,   // "Resetting before the guards are tried."
-    EndPlaceTests,       // "Giving an end place's own tests a say in the last step."
-    CutsCount,           // "Counting a piece anew because it came in two calls."
-    JoinsTestedOnly,     // joins pieces that differ only in channels without a test
-    PieceCountsOnce,     // in sum, a piece that the stay before touched too does not count again
-    FirstPieceOnly,      // a stay is priced by the first piece it touches
-    LastPieceOnly,       // a stay is priced by the last piece it touches
-    FirstTestOnly,       // a stay is priced by its first test
-    LastStayOnly,        // a run is priced by its last stay
-    StrictMeasuresLess,  // strict signs take 1 from the distance
-    DistanceFromZero,    // a distance is never negative
-    FreeStayIsZero,      // a stay without tests is worth 0 in margin too
-    StrictGuardsLoose,   // `<` holds like `<=`, and `>` like `>=`
-    FirstGuardOnly,      // only the first guard of an edge is tried
-    ResetsForgotten,     // no clock is ever set to 0 on the way
-    ResetsEveryClock,    // a reset bracket sets all clocks to 0
-    StaysFromEntryOnly,  // clocks count from the entry into the place
-    EndPlaceStops,       // a run cannot go on from an end place
-    BeginsAnywhere,      // a run may begin in any place
-    BeginsAtZeroOnly,    // a run begins at the record's begin
-    LowForgotten,        // runs shorter than the window's low count
-    HighOneMore,         // runs of length high + 1 count
-    HighOneLess,         // runs of length high do not count
-    GreatestLength,      // the greatest length among equals
-    LatestEnd,           // the latest end among equals
-    GreatestSum,         // the greatest is best in sum too
-}
-
-const SLIPS: [Slip; 29] = [
-    Slip::EveryTickCounts,
-    Slip::CeilingAtBound,
-    Slip::EdgesWithoutStay,
-    Slip::ResetBeforeGuards,
-    Slip::EndPlaceTests,
-    Slip::CutsCount,
-    Slip::JoinsTestedOnly,
-    Slip::PieceCountsOnce,
-    Slip::FirstPieceOnly,
-    Slip::LastPieceOnly,
-    Slip::FirstTestOnly,
-    Slip::LastStayOnly,
-    Slip::StrictMeasuresLess,
-    Slip::DistanceFromZero,
-    Slip::FreeStayIsZero,
-    Slip::StrictGuardsLoose,
-    Slip::FirstGuardOnly,
-    Slip::ResetsForgotten,
-    Slip::ResetsEveryClock,
-    Slip::StaysFromEntryOnly,
-    Slip::EndPlaceStops,
-    Slip::BeginsAnywhere,
-    Slip::BeginsAtZeroOnly,
-    Slip::LowForgotten,
-    Slip::HighOneMore,
-    Slip::HighOneLess,
-    Slip::GreatestLength,
-    Slip::LatestEnd,
-    Slip::GreatestSum,
-];
-
-/// One stay of a run: in a place, over the ticks from one time to another.
+/// A printed line: an end, the begin of its best run, and that run's score.
 #[derive(Clone, Copy)]
-struct Stay {
-    place: usize,
-    from: u64,
-    to: u64,
-}
-
-/// The best of the runs with one end.
-#[derive(Clone, Copy)]
-struct Best {
+struct Report {
+    end: i64,
+    begin: i64,
     score: i64,
-    length: u64,
-    /// How many runs have this score and this length, and whether some have it with another length.
-    runs: u64,
-    other_lengths: bool,
-    stays: usize,
 }
 
-/// "A stay without tests is worth 2,000,001, which stands for the source's infinity."
-const FREE: i64 = 2_000_001;
-
-struct Scorer<'a> {
-    pattern: &'a Pattern,
-    /// The joined pieces.
-    pieces: Vec<Piece>,
-    total: u64,
-    slip: Slip,
-    /// The best run for each end that has one.
-    ends: BTreeMap<u64, Best>,
-    /// How many runs were priced, and how many steps were tried for the listing.
-    runs: u64,
-    steps: u64,
+/// The best score among the runs with that end whose length is at least the
+/// window's low and at most its high, and the least length among those with
+/// that score; none if there is no such run. Lengths rise, and a run only takes
+/// the place of a worse one, so of equals the shortest stays.
+fn best_of_end(pattern: &Pattern, record: &[Piece], end: i64) -> Option<Report> {
+    let mut best: Option<Report> = None;
+    for length in pattern.low..=pattern.high {
+        let begin = end - length;
+        if begin < 0 {
+            break; // a run begins inside the record
+        }
+        list_runs(pattern, begin, end, &mut |run| {
+            let score = run_worth(pattern, record, run);
+            if best.is_none_or(|held| better(pattern.weighting, score, held.score)) {
+                best = Some(Report { end, begin, score });
+            }
+            true
+        });
+    }
+    best
 }
 
-/// A slip may make many more runs: its listing is given up after so many steps. The right one never is.
-const SLIP_STEPS: u64 = 20_000;
-
-impl Scorer<'_> {
-    fn slip(&self, slip: Slip) -> bool {
-        self.slip == slip
+/// The first end that has a run in the window, if the record has one. Guards
+/// ask clocks alone, and tests only price, so whether there is a run over b to
+/// e depends on e - b alone: the first end is the least length of the window
+/// that has a run, begun at 0, and ends before it have no line. A pattern
+/// without a start, an end or an edge never has a run.
+fn first_end(pattern: &Pattern, total: i64) -> Option<i64> {
+    if !pattern.places.iter().any(|place| place.start)
+        || !pattern.places.iter().any(|place| place.end)
+        || pattern.edges.is_empty()
+    {
+        return None;
     }
-
-    fn given_up(&self) -> bool {
-        !self.slip(Slip::Right) && self.steps > SLIP_STEPS
-    }
-
-    /// "A run over begin b to end e has one or more steps. It enters a start place at b, all clocks 0."
-    fn list_every_run(&mut self) {
-        for begin in 0..self.total {
-            if self.slip(Slip::BeginsAtZeroOnly) && begin > 0 {
-                break;
-            }
-            for place in 0..self.pattern.places.len() {
-                if self.pattern.places[place].start || self.slip(Slip::BeginsAnywhere) {
-                    self.go_on(begin, place, begin, [0; 4], &mut Vec::new());
-                }
-            }
+    for length in pattern.low..=pattern.high.min(total) {
+        let mut found = false;
+        list_runs(pattern, 0, length, &mut |_| {
+            found = true;
+            false
+        });
+        if found {
+            return Some(length);
         }
     }
-
-    /// Lists every way to go on from a place that was entered now. Runs longer than the window's high
-    /// or past the record's end are left out: no end would ever report them.
-    fn go_on(&mut self, begin: u64, place: usize, now: u64, clocks: [u64; 4], stays: &mut Vec<Stay>) {
-        let pattern = self.pattern;
-        let high = match self.slip {
-            Slip::HighOneMore => pattern.high + 1,
-            Slip::HighOneLess => pattern.high - 1,
-            _ => pattern.high,
-        };
-        // "Each step stays at least 1 tick, every clock growing with it".
-        let hurry = self.slip(Slip::EdgesWithoutStay) && stays.last().is_some_and(|stay| stay.from < stay.to);
-        let shortest = if hurry { 0 } else { 1 };
-        for left in now + shortest..=self.total.min(begin + high) {
-            let grown = clocks.map(|clock| clock + (left - now));
-            // "then takes an edge out of that place whose guards all hold";
-            for edge in pattern.edges.iter().filter(|edge| edge.from == place) {
-                self.steps += 1;
-                if !self.guards_hold(edge, grown) || self.given_up() {
-                    continue;
-                }
-                // "then sets the edge's reset clocks to 0."
-                let after = self.after_resets(edge, grown);
-                stays.push(Stay { place, from: now, to: left });
-                // "The last edge enters an end place at e exactly. No time passes there."
-                let entered = &pattern.places[edge.to];
-                if entered.end && (left - begin >= pattern.low || self.slip(Slip::LowForgotten)) {
-                    self.take_run(begin, left, stays, edge.to);
-                }
-                // That edge need not be the last one: a run may also stay in an end place and go on.
-                if !(entered.end && self.slip(Slip::EndPlaceStops)) {
-                    self.go_on(begin, edge.to, left, after, stays);
-                }
-                stays.pop();
-            }
-        }
-    }
-
-    fn guards_hold(&self, edge: &Edge, grown: [u64; 4]) -> bool {
-        let mut clocks = grown;
-        if self.slip(Slip::ResetBeforeGuards) {
-            edge.resets.iter().for_each(|clock| clocks[*clock] = 0);
-        }
-        if self.slip(Slip::CeilingAtBound) {
-            (0..4).for_each(|clock| clocks[clock] = clocks[clock].min(largest_bound(self.pattern, clock)));
-        }
-        let loose = self.slip(Slip::StrictGuardsLoose);
-        let tried = if self.slip(Slip::FirstGuardOnly) { 1 } else { 4 };
-        edge.guards.iter().take(tried).all(|guard| {
-            let (clock, bound) = (clocks[guard.index], guard.bound as u64);
-            match guard.sign {
-                Sign::Less => clock < bound || loose && clock == bound,
-                Sign::LessOrEqual => clock <= bound,
-                Sign::Greater => clock > bound || loose && clock == bound,
-                Sign::GreaterOrEqual => clock >= bound,
-            }
-        })
-    }
-
-    fn after_resets(&self, edge: &Edge, grown: [u64; 4]) -> [u64; 4] {
-        let mut clocks = grown;
-        for clock in &edge.resets {
-            clocks[*clock] = 0;
-        }
-        match self.slip {
-            Slip::ResetsForgotten => grown,
-            Slip::ResetsEveryClock if !edge.resets.is_empty() => [0; 4],
-            Slip::StaysFromEntryOnly => [0; 4],
-            _ => clocks,
-        }
-    }
-
-    /// A run is listed: it is priced, and kept if it is the best yet at its end. "It holds the best score
-    /// among the runs with that end whose length is at least the window's low and at most its high, and
-    /// the least length among those with that score".
-    fn take_run(&mut self, begin: u64, end: u64, stays: &[Stay], entered: usize) {
-        self.runs += 1;
-        let score = self.price(stays, entered, end);
-        let length = end - begin; // "A run's length is its end minus its begin."
-        let this = Best { score, length, runs: 1, other_lengths: false, stays: stays.len() };
-        let greatest_length = self.slip(Slip::GreatestLength);
-        let Some(best) = self.ends.get(&end).copied() else {
-            self.ends.insert(end, this);
-            return;
-        };
-        let kept = if self.is_better(score, best.score) {
-            this
-        } else if score != best.score {
-            best
-        } else if length == best.length {
-            Best { runs: best.runs + 1, ..best }
-        } else if (length < best.length) != greatest_length {
-            Best { other_lengths: true, ..this }
-        } else {
-            Best { other_lengths: true, ..best }
-        };
-        self.ends.insert(end, kept);
-    }
-
-    /// Margin: "the greatest run is best". Sum: "the least is best."
-    fn is_better(&self, score: i64, other: i64) -> bool {
-        if self.pattern.sum && !self.slip(Slip::GreatestSum) { score < other } else { score > other }
-    }
-
-    /// Margin: a run is worth "the least of its stays". Sum: "a run adds its stays". The end place that
-    /// the last edge enters is no stay of the run, so its tests say nothing.
-    fn price(&self, stays: &[Stay], entered: usize, end: u64) -> i64 {
-        let begin = stays[0].from;
-        let priced = if self.slip(Slip::LastStayOnly) { &stays[stays.len() - 1..] } else { stays };
-        let worths = priced.iter().map(|stay| self.worth(stay, begin));
-        let score = if self.pattern.sum { worths.sum() } else { worths.min().unwrap_or(FREE) };
-        if !self.slip(Slip::EndPlaceTests) {
-            return score;
-        }
-        let more = self.worth(&Stay { place: entered, from: end - 1, to: end }, begin);
-        if self.pattern.sum { score + more } else { score.min(more) }
-    }
-
-    /// "In margin a stay is worth the least distance over its tests and the pieces it touches [...]. In
-    /// sum a stay adds up the distances of all its tests, once per joined piece it touches".
-    fn worth(&self, stay: &Stay, begin: u64) -> i64 {
-        let tests = &self.pattern.places[stay.place].tests;
-        let tests = if self.slip(Slip::FirstTestOnly) { &tests[..tests.len().min(1)] } else { tests };
-        let (mut least, mut added) = (FREE, 0);
-        if self.slip(Slip::FreeStayIsZero) && tests.is_empty() {
-            least = 0;
-        }
-        for piece in self.touched(stay) {
-            if self.slip(Slip::PieceCountsOnce) && piece.from < stay.from && stay.from > begin {
-                continue;
-            }
-            let ticks = piece.to.min(stay.to) - piece.from.max(stay.from);
-            let times = if self.slip(Slip::EveryTickCounts) { ticks as i64 } else { 1 };
-            for test in tests {
-                let distance = self.distance(test, &piece.values);
-                least = least.min(distance);
-                added += distance * times;
-            }
-        }
-        if self.pattern.sum { added } else { least }
-    }
-
-    /// The joined pieces that share a tick with the stay. ("Tick t runs from time t to t + 1.")
-    fn touched(&self, stay: &Stay) -> &[Piece] {
-        let first = self.pieces.partition_point(|piece| piece.to <= stay.from);
-        let behind = self.pieces.partition_point(|piece| piece.from < stay.to).max(first);
-        match self.slip {
-            Slip::FirstPieceOnly => &self.pieces[first..behind.min(first + 1)],
-            Slip::LastPieceOnly => &self.pieces[first.max(behind.saturating_sub(1))..behind],
-            _ => &self.pieces[first..behind],
-        }
-    }
-
-    /// "A test's distance is value - bound for `>` and `>=`, bound - value for `<` and `<=`; it may be
-    /// negative, and strict signs measure like the others."
-    fn distance(&self, test: &Condition, values: &[i64]) -> i64 {
-        let value = values[test.index];
-        let distance = match test.sign {
-            Sign::Greater | Sign::GreaterOrEqual => value - test.bound,
-            Sign::Less | Sign::LessOrEqual => test.bound - value,
-        };
-        let strict = matches!(test.sign, Sign::Less | Sign::Greater);
-        match self.slip {
-            Slip::StrictMeasuresLess if strict => distance - 1,
-            Slip::DistanceFromZero => distance.max(0),
-            _ => distance,
-        }
-    }
-
-    /// "the best end, begin and score over the ends of demand 3, or none; among equals the earliest end,
-    /// then the shortest."
-    fn best_of_all(&self) -> Option<(u64, Best)> {
-        let mut answer: Option<(u64, Best)> = None;
-        for (end, best) in &self.ends {
-            let better = match &answer {
-                None => true,
-                Some((_, other)) if self.slip(Slip::LatestEnd) => !self.is_better(other.score, best.score),
-                Some((_, other)) => self.is_better(best.score, other.score),
-            };
-            if better {
-                answer = Some((*end, *best));
-            }
-        }
-        answer
-    }
-
-    /// "fields as headed"; "Ends without a run have no line; with none at all the last line is
-    /// `best none`."
-    fn print(&self) -> String {
-        let mut text = String::from("end begin score\n");
-        for (end, best) in &self.ends {
-            writeln!(text, "{} {} {}", end, end - best.length, best.score).unwrap();
-        }
-        match self.best_of_all() {
-            Some((end, best)) => writeln!(text, "best {} {} {}", end, end - best.length, best.score).unwrap(),
-            None => text.push_str("best none\n"),
-        }
-        text
-    }
+    None
 }
 
-fn score<'a>(pattern: &'a Pattern, record: &[Piece], slip: Slip) -> Scorer<'a> {
-    let tested = |channel: &usize| {
-        pattern.places.iter().any(|place| place.tests.iter().any(|test| test.index == *channel))
-    };
-    let pieces = match slip {
-        Slip::CutsCount => record.to_vec(),
-        Slip::JoinsTestedOnly => joined(record, |one, other| {
-            (0..pattern.channels).filter(tested).all(|channel| one.values[channel] == other.values[channel])
-        }),
-        _ => joined(record, |one, other| one.values == other.values),
-    };
-    let total = record.last().map_or(0, |piece| piece.to);
-    let mut scorer = Scorer { pattern, pieces, total, slip, ends: BTreeMap::new(), runs: 0, steps: 0 };
-    scorer.list_every_run();
-    scorer
+// ---------------------------------------------------------------------------
+// The program
+// ---------------------------------------------------------------------------
+
+/// A file that can't be opened counts as empty. Of a longer file than `most`
+/// bytes only one byte more is read, enough to see that it is too long.
+fn read_file(path: &Path, most: usize) -> Vec<u8> {
+    let mut bytes = Vec::new();
+    if let Ok(file) = File::open(path) {
+        let limit = u64::try_from(most).unwrap_or(u64::MAX).saturating_add(1);
+        // Should reading fail half way, what was read counts.
+        let _ = file.take(limit).read_to_end(&mut bytes);
+    }
+    bytes
 }
 
-// ---------------------------------------------------------------------------------------- the answer
-
-/// Who refused.
-#[derive(Clone, Copy)]
-enum By {
-    Pattern,
-    Record,
-    Tables,
-}
-
-/// "the pattern is judged first": the pattern text (1 to 5), then the record text (1, 2, then 8), then
-/// 11. "Its tables have 2,048 cells each."
-fn judge(pattern: &[u8], record: &[u8], faults: &mut Faults) -> Result<(Pattern, Vec<Piece>), (u8, By)> {
-    let pattern = read_pattern(pattern, faults).map_err(|refusal| (refusal, By::Pattern))?;
-    let record = read_record(record, pattern.channels).map_err(|refusal| (refusal, By::Record))?;
-    if cells_needed(&pattern) > 2_048 {
-        return Err((11, By::Tables));
+/// The pattern is judged first, then the record, then the tables.
+fn judge(folder: &Path) -> Result<(Pattern, Vec<Piece>), Refusal> {
+    let pattern = read_pattern(&read_file(&folder.join("pattern.txt"), PATTERN_BYTES))?;
+    let text = read_file(&folder.join("record.txt"), RECORD_BYTES);
+    let record = read_record(&text, pattern.channels)?;
+    if cells_needed(&pattern) > TABLE_CELLS {
+        return Err(SHORT_TABLE);
     }
     Ok((pattern, record))
 }
 
-/// "A refusal prints one line and no other, as `refused 11`".
-fn answer(pattern: &[u8], record: &[u8]) -> String {
-    match judge(pattern, record, &mut Faults::default()) {
-        Err((refusal, _)) => format!("refused {refusal}\n"),
-        Ok((pattern, record)) => score(&pattern, &record, Slip::Right).print(),
-    }
-}
-
-// ----------------------------------------------------------------------------------------- the cases
-
-/// One case of a file of cases: a line `=== NUMBER P R EXPECTED KIND`, then P bytes of pattern text, R
-/// bytes of record text, and a line feed. EXPECTED is `-`, or what the generator knows of the answer:
-/// `ok` for no refusal, or the refusal's number.
-struct Case {
-    number: usize,
-    expected: String,
-    kind: String,
-    pattern: Vec<u8>,
-    record: Vec<u8>,
-}
-
-fn read_cases(path: &str) -> Vec<Case> {
-    let bytes = std::fs::read(path).unwrap_or_else(|error| stop(&format!("{path}: {error}")));
-    let mut cases = Vec::new();
-    let mut rest = &bytes[..];
-    while !rest.is_empty() {
-        let length = rest.iter().position(|byte| *byte == b'\n').unwrap_or_else(|| stop("header cut short"));
-        let header = String::from_utf8(rest[..length].to_vec()).unwrap_or_else(|_| stop("header not text"));
-        let fields: Vec<&str> = header.split(' ').collect();
-        let ["===", number, pattern, record, expected, kind] = fields[..] else {
-            stop(&format!("not a header: {header}"))
-        };
-        let size = |field: &str| field.parse::<usize>().unwrap_or_else(|_| stop("header without its sizes"));
-        let (pattern, record) = (size(pattern), size(record));
-        let texts = &rest[length + 1..];
-        if texts.get(pattern + record) != Some(&b'\n') {
-            stop(&format!("sizes do not fit: {header}"));
-        }
-        cases.push(Case {
-            number: size(number),
-            expected: expected.to_string(),
-            kind: kind.to_string(),
-            pattern: texts[..pattern].to_vec(),
-            record: texts[pattern..pattern + record].to_vec(),
-        });
-        rest = &texts[pattern + record + 1..];
-    }
-    cases
-}
-
-// ------------------------------------------------------------------------------------ the statistics
-
-/// Everything that must occur in the cases. The statistics fail if one of these counts is 0.
-fn must_occur() -> Vec<String> {
-    let mut names: Vec<String> = [
-        "answer: some end has a run",
-        "answer: no run, the record has pieces",
-        "answer: no run, the record is empty",
-        "refused 1 by the pattern",
-        "refused 2 by the pattern",
-        "refused 3 by the pattern",
-        "refused 4 by the pattern",
-        "refused 5 by the pattern",
-        "refused 1 by the record",
-        "refused 2 by the record",
-        "refused 8 by the record",
-        "refused 11 by the tables",
-        "one line with causes for 4 and 3",
-        "one line with causes for 4 and 5",
-        "one line with causes for 3 and 5",
-        "one line with causes for 4, 3 and 5",
-        "refused pattern beside a faulty record",
-        "refused 8 beside too many cells",
-        "needs exactly 2048 cells",
-        "tie: one end, the best score at two lengths",
-        "tie: one end, two runs of the best score and its least length",
-        "tie: the best score at two ends",
-        "no start place",
-        "no end place",
-        "no edge",
-        "a loop from a place to itself",
-        "two equal edges",
-        "a place of both kinds",
-        "a duration over 65535",
-        "pieces to be joined",
-        "the best run has 1 stay",
-        "the best run has 2 stays",
-        "the best run has 3 stays",
-        "the best run has 4 or more stays",
-        "the best margin is 2000001",
-        "the best score is negative",
-        "sum, some end has a run, the record begins with zeros",
-        "window: low 1",
-        "window: low equals high",
-        "window: low over 1",
-        "window: some end past high",
-    ]
-    .map(String::from)
-    .to_vec();
-    for weighting in ["margin", "sum"] {
-        names.push(format!("answered with a run, {weighting}"));
-        names.extend((0..=4).map(|clocks| format!("answered with a run, {weighting}, {clocks} clocks")));
-        names.extend((1..=8).map(|channels| format!("answered with a run, {weighting}, {channels} channels")));
-    }
-    for count in 0..=4 {
-        names.push(format!("answered with a run, a place with {count} tests"));
-        names.push(format!("answered with a run, an edge with {count} guards"));
-        names.push(format!("answered with a run, an edge with {count} resets"));
-    }
-    for sign in ["<", "<=", ">", ">="] {
-        names.push(format!("answered with a run, a test with {sign}"));
-        names.push(format!("answered with a run, a guard with {sign}"));
-    }
-    names.extend(SLIPS.map(|slip| format!("told apart: {slip:?}")));
-    names
-}
-
-fn sign_text(sign: Sign) -> &'static str {
-    match sign {
-        Sign::Less => "<",
-        Sign::LessOrEqual => "<=",
-        Sign::Greater => ">",
-        Sign::GreaterOrEqual => ">=",
-    }
-}
-
-/// What one case shows, each thing once.
-fn seen_in(case: &Case) -> (Vec<String>, u64, u64) {
-    let mut seen: Vec<String> = Vec::new();
-    let (mut runs, mut steps) = (0, 0);
-    let mut see = |occurs: bool, name: &str| {
-        if occurs && !seen.iter().any(|other| other == name) {
-            seen.push(name.to_string());
-        }
-    };
-    let mut faults = Faults::default();
-    let judged = judge(&case.pattern, &case.record, &mut faults);
-    let refused = judged.as_ref().err().copied();
-    match refused {
-        Some((refusal, By::Pattern)) => {
-            see(true, &format!("refused {refusal} by the pattern"));
-            let Faults { too_many, out_of_range, no_such_index } = faults;
-            see(too_many && out_of_range && no_such_index, "one line with causes for 4, 3 and 5");
-            see(too_many && out_of_range, "one line with causes for 4 and 3");
-            see(too_many && no_such_index, "one line with causes for 4 and 5");
-            see(out_of_range && no_such_index, "one line with causes for 3 and 5");
-            let faulty = matches!(read_record(&case.record, 1), Err(1 | 2));
-            see(faulty, "refused pattern beside a faulty record");
-        }
-        Some((refusal, By::Record)) => {
-            see(true, &format!("refused {refusal} by the record"));
-            let pattern = read_pattern(&case.pattern, &mut faults);
-            let cells = pattern.map_or(0, |pattern| cells_needed(&pattern));
-            see(refusal == 8 && cells > 2_048, "refused 8 beside too many cells");
-        }
-        Some((refusal, By::Tables)) => see(true, &format!("refused {refusal} by the tables")),
-        None => {}
-    }
-    if let Ok((pattern, record)) = &judged {
-        let right = score(pattern, record, Slip::Right);
-        let printed = right.print();
-        let has_run = !right.ends.is_empty();
-        (runs, steps) = (right.runs, right.steps);
-        see(has_run, "answer: some end has a run");
-        see(!has_run && !record.is_empty(), "answer: no run, the record has pieces");
-        see(!has_run && record.is_empty(), "answer: no run, the record is empty");
-        see(cells_needed(pattern) == 2_048, "needs exactly 2048 cells");
-        see(right.ends.values().any(|best| best.other_lengths), "tie: one end, the best score at two lengths");
-        let equal_runs = right.ends.values().any(|best| best.runs > 1);
-        see(equal_runs, "tie: one end, two runs of the best score and its least length");
-        see(!pattern.places.iter().any(|place| place.start), "no start place");
-        see(!pattern.places.iter().any(|place| place.end), "no end place");
-        see(pattern.edges.is_empty(), "no edge");
-        see(pattern.edges.iter().any(|edge| edge.from == edge.to), "a loop from a place to itself");
-        see(pattern.places.iter().any(|place| place.start && place.end), "a place of both kinds");
-        let key = |edge: &Edge| {
-            let guards = edge.guards.iter().map(|guard| (sign_text(guard.sign), guard.index, guard.bound));
-            (edge.from, edge.to, guards.collect::<Vec<_>>(), edge.resets.clone())
-        };
-        let keys: Vec<_> = pattern.edges.iter().map(key).collect();
-        let twice = (0..keys.len()).any(|one| keys[..one].contains(&keys[one]));
-        see(twice, "two equal edges");
-        see(record.iter().any(|piece| piece.to - piece.from > 65_535), "a duration over 65535");
-        see(right.pieces.len() < record.len(), "pieces to be joined");
-        see(pattern.low == 1, "window: low 1");
-        see(pattern.low > 1, "window: low over 1");
-        see(pattern.low == pattern.high, "window: low equals high");
-        let zeros = record.first().is_some_and(|piece| piece.values.iter().all(|value| *value == 0));
-        see(zeros && has_run && pattern.sum, "sum, some end has a run, the record begins with zeros");
-        see(right.ends.keys().any(|end| *end > pattern.high), "window: some end past high");
-        if let Some((_, best)) = right.best_of_all() {
-            match best.stays {
-                1 => see(true, "the best run has 1 stay"),
-                2 => see(true, "the best run has 2 stays"),
-                3 => see(true, "the best run has 3 stays"),
-                _ => see(true, "the best run has 4 or more stays"),
-            }
-            see(!pattern.sum && best.score == FREE, "the best margin is 2000001");
-            see(best.score < 0, "the best score is negative");
-            let ends = right.ends.values().filter(|other| other.score == best.score).count();
-            see(ends > 1, "tie: the best score at two ends");
-            let name = format!("answered with a run, {}", if pattern.sum { "sum" } else { "margin" });
-            see(true, &name);
-            see(true, &format!("{name}, {} clocks", pattern.clocks));
-            see(true, &format!("{name}, {} channels", pattern.channels));
-            for place in &pattern.places {
-                see(true, &format!("answered with a run, a place with {} tests", place.tests.len()));
-                for test in &place.tests {
-                    see(true, &format!("answered with a run, a test with {}", sign_text(test.sign)));
-                }
-            }
-            for edge in &pattern.edges {
-                see(true, &format!("answered with a run, an edge with {} guards", edge.guards.len()));
-                see(true, &format!("answered with a run, an edge with {} resets", edge.resets.len()));
-                for guard in &edge.guards {
-                    see(true, &format!("answered with a run, a guard with {}", sign_text(guard.sign)));
+/// Prints the heading, a line for each end with a run, and the best over all
+/// ends: among equals the earliest end, then the shortest. Ends without a run
+/// have no line; with none at all the last line is `best none`.
+fn print_report(pattern: &Pattern, record: &[Piece], out: &mut dyn Write) -> io::Result<()> {
+    writeln!(out, "end begin score")?;
+    let mut best: Option<Report> = None;
+    let total = total_ticks(record);
+    if let Some(first) = first_end(pattern, total) {
+        for end in first..=total {
+            if let Some(report) = best_of_end(pattern, record, end) {
+                writeln!(out, "{} {} {}", report.end, report.begin, report.score)?;
+                if best.is_none_or(|held| better(pattern.weighting, report.score, held.score)) {
+                    best = Some(report);
                 }
             }
         }
-        // Where even the right listing takes long, the slips are not tried.
-        let slips: &[Slip] = if right.steps + right.total > SLIP_STEPS { &[] } else { &SLIPS };
-        for &slip in slips {
-            let wrong = score(pattern, record, slip);
-            see(!wrong.given_up() && wrong.print() != printed, &format!("told apart: {slip:?}"));
-        }
     }
-    let meets_expectation = match (&case.expected[..], refused) {
-        ("-", _) | ("ok", None) => true,
-        (expected, Some((refusal, _))) => expected == refusal.to_string(),
-        _ => false,
-    };
-    see(!meets_expectation, "NOT AS THE GENERATOR EXPECTS");
-    see(case.expected != "-", "the generator knew the refusal, or that there is none");
-    (seen, runs, steps)
+    match best {
+        Some(report) => writeln!(out, "best {} {} {}", report.end, report.begin, report.score),
+        None => writeln!(out, "best none"),
+    }
 }
 
-/// Prints the statistics; answers whether all is well.
-fn statistics(cases: &[Case]) -> bool {
-    let mut counts: BTreeMap<String, u64> = must_occur().into_iter().map(|name| (name, 0)).collect();
-    let mut kinds: BTreeMap<String, BTreeMap<String, u64>> = BTreeMap::new();
-    let (mut runs, mut steps, mut most, mut well) = (0, 0, 0, true);
-    for case in cases {
-        let (seen, listed, tried) = seen_in(case);
-        runs += listed;
-        steps += tried;
-        most = most.max(listed);
-        let result = seen.iter().find(|name| name.starts_with("refused ") || name.starts_with("answer: "));
-        let results = kinds.entry(case.kind.clone()).or_default();
-        *results.entry(result.cloned().unwrap_or_default()).or_default() += 1;
-        if seen.iter().any(|name| name == "NOT AS THE GENERATOR EXPECTS") {
-            println!("case {} ({}): expected {}", case.number, case.kind, case.expected);
-            well = false;
-        }
-        for name in seen {
-            *counts.entry(name).or_default() += 1;
-        }
-    }
-    println!("{:7}  cases", cases.len());
-    println!("{runs:7}  runs listed and priced in all, at most {most} in one case; {steps} steps tried");
-    for (name, count) in &counts {
-        println!("{count:7}  {name}");
-        if *count == 0 {
-            println!("         ^ never occurs");
-            well = false;
-        }
-    }
-    for (kind, results) in kinds {
-        let results: Vec<String> = results.iter().map(|(result, count)| format!("{count} {result}")).collect();
-        println!("kind {kind}: {}", results.join("; "));
-    }
-    well
-}
-
-// ------------------------------------------------------------------------------------------- the end
-
-fn stop(message: &str) -> ! {
-    eprintln!("{message}");
-    exit(2)
-}
-
+/// A refusal prints one line and no other.
 fn main() {
-    let arguments: Vec<String> = std::env::args().skip(1).collect();
-    let arguments: Vec<&str> = arguments.iter().map(String::as_str).collect();
-    match arguments[..] {
-        ["--many", cases] => {
-            let mut text = String::new();
-            for case in read_cases(cases) {
-                write!(text, "=== {}\n{}", case.number, answer(&case.pattern, &case.record)).unwrap();
-            }
-            print!("{text}");
-        }
-        ["--many", cases, "--expected", out] => {
-            for case in read_cases(cases) {
-                let path = format!("{out}/{}/expected.txt", case.number);
-                let written = std::fs::write(&path, answer(&case.pattern, &case.record));
-                written.unwrap_or_else(|error| stop(&format!("{path}: {error}")));
-            }
-        }
-        ["--many", cases, "--stats"] => {
-            if !statistics(&read_cases(cases)) {
-                exit(1);
-            }
-        }
-        [directory] if !directory.starts_with("--") => {
-            // "A file that can't be opened counts as empty".
-            let text = |name: &str| std::fs::read(format!("{directory}/{name}")).unwrap_or_default();
-            print!("{}", answer(&text("pattern.txt"), &text("record.txt")));
-        }
-        _ => stop("usage: scorer DIR | scorer --many CASES [--expected OUT | --stats]"),
-    }
+    let folder = std::env::args_os().nth(1).unwrap_or_else(|| OsString::from("."));
+    let mut out = BufWriter::new(io::stdout().lock());
+    // Where nobody takes the output there is nobody to tell.
+    let _ = match judge(&PathBuf::from(folder)) {
+        Ok((pattern, record)) => print_report(&pattern, &record, &mut out),
+        Err(Refusal(number)) => writeln!(out, "refused {number}"),
+    };
+    let _ = out.flush();
 }
