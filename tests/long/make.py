@@ -1,7 +1,7 @@
 #!/usr/bin/env python3
 """Makes the cases of the long measure: make.py OUT writes OUT/NAME/pattern.txt, record.txt and about.txt.
 
-The same bytes each time. Every pattern needs 2,048 cells, has 32 edges and a run at every end; the record has 1,300 pieces,
+The same bytes each time. Every pattern needs 2,048 cells, has 32 edges and a run at every end from the window's low on; the record has 1,300 pieces,
 none of which join, and 100,000 ticks.
 """
 
@@ -64,7 +64,8 @@ def patterns():
 
 def text(weighting, clocks, high, places, edges):
     choose = random.Random(3)
-    lines = [f"(pattern {weighting} 1 {clocks} 1 {high})"]
+    # with a low of 1 no longer run could be best in margin
+    lines = [f"(pattern {weighting} 1 {clocks} {(high + 1) // 2} {high})"]
     for _ in range(places):
         tests = [(choose.choice(list(SIGNS)), choose.randint(-9, 30)) for _ in range(3)]
         lines.append("(place both" + "".join(f" ({sign} 0 {bound})" for sign, bound in tests) + ")")
@@ -113,7 +114,7 @@ def main():
             with open(os.path.join(folder, "record.txt"), "w") as file:
                 file.write(lines)
             with open(os.path.join(folder, "about.txt"), "w") as file:
-                file.write(f"window 1 to {high}, {reached(clocks, high, places, edges)} of {cells} cells reached")
+                file.write(f"window {(high + 1) // 2} to {high}, {reached(clocks, high, places, edges)} of {cells} cells reached")
 
 
 main()
