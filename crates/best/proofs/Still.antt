@@ -1,4 +1,4 @@
--- A piece of more than high + 2 ticks: after those the table stands still, and with it the reports and the choice.
+-- A piece of more than high + 1 ticks: after those the table stands still, and with it the reports and the choice.
 use Prim.Native.Nat.{ℕ, zero, suc, _+_, _-_, _≤_, _<_, min}
 use native.Mathlib.Omega.{arith}
 use mathlib.Core.Path.{_≡_, refl, sym, ap, subst, _∙_}
@@ -16,7 +16,7 @@ use Rattle.pattern.specs.Clocks.{Clocks}
 use Rattle.pattern.specs.Distance.{Sample}
 use Rattle.record.specs.Record.{Book, sampleAt, total, recordSound, bookOf}
 use Rattle.record.proofs.RecordLaws.{parts, total-more}
-use Rattle.walks.specs.Automaton.{State as Place}
+use Rattle.walks.specs.Automaton.{View, State as Place}
 use Rattle.walks.specs.Tables.{Table, tableAt}
 use Rattle.walks.proofs.Cut.{cut}
 use Rattle.walks.proofs.Still.{still, still-reports}
@@ -35,18 +35,26 @@ use Rattle.best.specs.Search.{tableTo, SearchedTo, passed}
 use Rattle.best.proofs.Choices.{same-again}
 use Rattle.best.proofs.Pieces.{front, rest, split, front-long, start-low}
 
--- ---- a book of which high + 1 ticks, and `more` after them, are all alike, from tick n on
+-- ---- a book of which high + 1 ticks from tick n on, and `more` after them, are all alike but for the first
 
 module _ (p : Pattern) (sound : soundOf p ≡ true) (b : Book) (n more : ℕ) (x : Sample)
-    (all-alike : (t : ℕ) (f : Bool) (k : ℕ) → t < suc (p .high) + more → viewOf p b (n + t) f k ≡ tickView p x false f k) where
+    (all-alike : (t : ℕ) (f : Bool) (k : ℕ) → suc t < suc (p .high) + more → viewOf p b (n + suc t) f k ≡ tickView p x false f k) where
   -- the table after m of them, from the one that they found
+  abbrev seen : View ℤ
+  seen zero = viewOf p b n
+  seen (suc t) = tickView p x false
+
   abbrev alike : ℕ → Table ℤ Clocks
-  alike m = tableAt (weightingOf (p .weighing)) (heldAutomaton p) sameClocks (p .high) (cellStates p) (λ _. tickView p x false) (tableTo p b n) m
+  alike m = tableAt (weightingOf (p .weighing)) (heldAutomaton p) sameClocks (p .high) (cellStates p) seen (tableTo p b n) m
+
+  sees : (t : ℕ) (f : Bool) (k : ℕ) → t < suc (p .high) + more → viewOf p b (n + t) f k ≡ seen t f k
+  sees zero f k h = let e : n + 0 ≡ n = omega arith in ap (λ (j : ℕ). viewOf p b j f k) e
+  sees (suc t) f k h = all-alike t f k h
 
   later : (m : ℕ) → m ≤ suc (p .high) + more → tableTo p b (n + m) ≡ alike m
   later m h =
-      cut (weightingOf (p .weighing)) (heldAutomaton p) sameClocks (p .high) (cellStates p) (viewOf p b) (λ _. tickView p x false) (openTable p) n m
-      (λ t f k l. all-alike t f k (omega arith))
+      cut (weightingOf (p .weighing)) (heldAutomaton p) sameClocks (p .high) (cellStates p) (viewOf p b) seen (openTable p) n m
+      (λ t f k l. sees t f k (omega arith))
 
   short : (s : Place Clocks) → List·Memᴰ s (cellStates p) → s .len ≤ p .high
   short s m = of-cells p sound s m .low
@@ -54,13 +62,13 @@ module _ (p : Pattern) (sound : soundOf p ≡ true) (b : Book) (n more : ℕ) (x
   cells-still : (k : ℕ) → k ≤ more → (s : Place Clocks) → List·Memᴰ s (cellStates p) → tableTo p b (n + (suc (p .high) + k)) s ≡ tableTo p b (n + suc (p .high)) s
   cells-still k h s m =
       ap (λ (U : Table ℤ Clocks). U s) (later (suc (p .high) + k) (omega arith))
-      ∙ still (weightingOf (p .weighing)) (heldAutomaton p) sameClocks (p .high) (cellStates p) (tickView p x false) (tableTo p b n) k s (short s m)
+      ∙ still (weightingOf (p .weighing)) (heldAutomaton p) sameClocks (p .high) (cellStates p) seen (tickView p x false) (λ t. refl) (tableTo p b n) k s (short s m)
       ∙ sym (ap (λ (U : Table ℤ Clocks). U s) (later (suc (p .high)) (omega arith)))
 
   report-still : (k : ℕ) → k ≤ more → reportOf p (tableTo p b (n + (suc (p .high) + k))) ≡ reportOf p (tableTo p b (n + suc (p .high)))
   report-still k h =
       ap (reportOf p) (later (suc (p .high) + k) (omega arith))
-      ∙ still-reports (weightingOf (p .weighing)) (heldAutomaton p) sameClocks (p .high) (cellStates p) short (p .low) (tickView p x false) (tableTo p b n) k
+      ∙ still-reports (weightingOf (p .weighing)) (heldAutomaton p) sameClocks (p .high) (cellStates p) short (p .low) seen (tickView p x false) (λ t. refl) (tableTo p b n) k
       ∙ sym (ap (reportOf p) (later (suc (p .high)) (omega arith)))
 
   pub written-still : (t : List ℤ) → written p (tableTo p b (n + (suc (p .high) + more))) t ≡ written p (tableTo p b (n + suc (p .high))) t
@@ -146,42 +154,40 @@ module _ (p : Pattern) (sound : soundOf p ≡ true) (ds : List ℕ) (vs : List �
       omega arith
 
   -- m ticks are fed: all of the piece, or those until the table stands still
-  module _ (m : ℕ) (is : m ≡ min d (p .high + 2)) where
-    all-or : (m ≡ d) ⊎ ((m ≡ p .high + 2) × (m ≤ d))
-    all-or = by (leb d (p .high + 2)) refl
+  module _ (m : ℕ) (is : m ≡ min d (p .high + 1)) where
+    all-or : (m ≡ d) ⊎ ((m ≡ p .high + 1) × (m ≤ d))
+    all-or = by (leb d (p .high + 1)) refl
       where
-        by : (y : Bool) → leb d (p .high + 2) ≡ y → (m ≡ d) ⊎ ((m ≡ p .high + 2) × (m ≤ d))
-        by true e = let l = leb-true d (p .high + 2) e in inl (omega arith)
-        by false e = let l = leb-false d (p .high + 2) e in inr (omega arith, omega arith)
+        by : (y : Bool) → leb d (p .high + 1) ≡ y → (m ≡ d) ⊎ ((m ≡ p .high + 1) × (m ≤ d))
+        by true e = let l = leb-true d (p .high + 1) e in inl (omega arith)
+        by false e = let l = leb-false d (p .high + 1) e in inr (omega arith, omega arith)
 
-    -- what is alike high + 1 ticks after the piece's first, and at its end, is so after m ticks
-    to-end : {A : Type 0} (g : ℕ → A) → ((m ≡ p .high + 2) → m ≤ d → g (start + 1 + (suc (p .high) + (d - m))) ≡ g (start + 1 + suc (p .high))) → g (start + m) ≡ g (start + d)
+    -- what is alike after high + 1 ticks of the piece, and at its end, is so after m ticks
+    to-end : {A : Type 0} (g : ℕ → A) → ((m ≡ p .high + 1) → m ≤ d → g (start + (suc (p .high) + (d - m))) ≡ g (start + suc (p .high))) → g (start + m) ≡ g (start + d)
     to-end g h =
         ⊎-elim (λ e. ap (λ (k : ℕ). g (start + k)) e)
         (λ k.
-        let a : m ≡ p .high + 2 = k .0 in
+        let a : m ≡ p .high + 1 = k .0 in
         let l : m ≤ d = k .1 in
-        let y : start + m ≡ start + 1 + suc (p .high) = omega arith in
-        let z : start + 1 + (suc (p .high) + (d - m)) ≡ start + d = omega arith in
+        let y : start + m ≡ start + suc (p .high) = omega arith in
+        let z : start + (suc (p .high) + (d - m)) ≡ start + d = omega arith in
         ap g y ∙ sym (h a l) ∙ ap g z)
         all-or
 
-    alike-there : m ≡ p .high + 2 → m ≤ d → (t : ℕ) (f : Bool) (k : ℕ) → t < suc (p .high) + (d - m) → viewOf p B (start + 1 + t) f k ≡ tickView p x false f k
-    alike-there a l t f k h =
-        let e : start + 1 + t ≡ start + suc t = omega arith in
-        ap (λ (j : ℕ). viewOf p B j f k) e ∙ view-later t f k (omega arith)
+    alike-there : m ≡ p .high + 1 → m ≤ d → (t : ℕ) (f : Bool) (k : ℕ) → suc t < suc (p .high) + (d - m) → viewOf p B (start + suc t) f k ≡ tickView p x false f k
+    alike-there a l t f k h = view-later t f k (omega arith)
 
     pub table-passes : (t : List ℤ) → written p (tableTo p B (start + m)) t ≡ written p (tableTo p B (start + d)) t
-    table-passes t = to-end (λ k. written p (tableTo p B k) t) (λ a l. written-still p sound B (start + 1) (d - m) x (alike-there a l) t)
+    table-passes t = to-end (λ k. written p (tableTo p B k) t) (λ a l. written-still p sound B start (d - m) x (alike-there a l) t)
 
     choice-passes : chosenTo p B (start + m) ≡ chosenTo p B (start + d)
-    choice-passes = to-end (chosenTo p B) (λ a l. chosen-still p sound B (start + 1) (d - m) x (alike-there a l))
+    choice-passes = to-end (chosenTo p B) (λ a l. chosen-still p sound B start (d - m) x (alike-there a l))
 
     last-passes : before p B (start + m) ≡ before p B (start + d)
     last-passes =
         ⊎-elim (λ e. ap (λ (k : ℕ). before p B (start + k)) e)
         (λ k.
-        let a : m ≡ p .high + 2 = k .0 in
+        let a : m ≡ p .high + 1 = k .0 in
         let l : m ≤ d = k .1 in
         last-is m (omega arith) l ∙ sym (last-is d (omega arith) (omega arith)))
         all-or

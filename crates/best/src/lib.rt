@@ -178,7 +178,7 @@ fn pass_rest(s: Search, rest: u32) -> Search
     }
 }
 
-// One piece. All its ticks but the first are alike, so after high + 2 ticks the table stands still, and the rest passes.
+// One piece. All its ticks but the first are alike, so after high + 1 ticks the table stands still, and the rest passes.
 fn feed_whole(
     p: Pattern,
     durations: &[u32],
@@ -198,7 +198,7 @@ fn feed_whole(
     ensures { λ _. ⌜ now (second .exit) ≡ marks p (now (second .entry)) ⌝ }
 {
     let duration = durations[piece];
-    let still = p.high as u32 + 2;
+    let still = p.high as u32 + 1;
     let moved = least(duration, still);
     let search = feed_part(p, durations, values, piece, moved, s, first, second);
     pass_rest(search, duration - moved)

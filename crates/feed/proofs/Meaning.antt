@@ -6,9 +6,9 @@ use mathlib.Core.Logic.{_⊎_, inl, inr, ⊎-elim}
 use mathlib.Core.List.{List, [], _∷_, _++_, map, List·Memᴰ}
 use mathlib.Core.Option.{Option, none, some}
 use mathlib.Core.Bool.{Bool, true, false, not, cond, _&&_, _||_}
-use borrow.Author.Tests.{leb-true}
+use borrow.Author.Tests.{leb-true, lt-ltb}
 use native.Mathlib.Nat.{mul-le-mul-right}
-use lib.Dec.{T, leb}
+use lib.Dec.{T, leb, ltb}
 use lib.ListN.{length, take, drop, getD, length-map, length-take, List·getD-map}
 use lib.Seq.{getD-take}
 use lib.IntN.{ℤ, pos, natAbs}
@@ -64,41 +64,41 @@ use Rattle.monitor.proofs.Sizes.{GainSized, gain-sized}
 use Rattle.feed_ticks.specs.Ticks.{kindFlag, kindFlags, gainsOf, viewIn, Ground, groundOf, viewAt, tableTo, scoresTo, lengthsTo, reportIn, Telling}
 use Rattle.feed.proofs.Lists.{same-default, is-written}
 
--- ---- a report in which nothing was found is zeros
+-- ---- a report of length 0 is zeros
 
 abbrev Blank : Report → Type 0
-Blank r = r .found ≡ false → (r .score ≡ pos 0) × (r .length ≡ 0)
+Blank r = ltb 0 (r .length) ≡ false → (r .score ≡ pos 0) × (r .length ≡ 0)
 
 no : _≡_ {A = Bool} true false → ⊥
 no e = let z : _≡_ {A = ℕ} 0 1 = cc in omega arith
 
-noted-blank : (w : Weighing) (r : Report) (v : ℤ) (n : ℕ) → Blank r → Blank (noted w r v n)
+noted-blank : (w : Weighing) (r : Report) (v : ℤ) (n : ℕ) → 0 < n → Blank r → Blank (noted w r v n)
 unfolding noted
-noted-blank w r v n h = by (r .found) (weightingOf w .order .atLeast v (r .score))
+noted-blank w r v n some-n h = by (ltb 0 (r .length)) (weightingOf w .order .atLeast v (r .score))
   where
     new : Report
-    new = record { found = true; score = v; length = n }
+    new = record { score = v; length = n }
 
     by : (y z : Bool) → Blank (cond y (cond z new r) new)
-    by true true q = absurd (no q)
+    by true true q = absurd (no (sym (lt-ltb 0 n some-n) ∙ q))
     by true false q = h q
-    by false z q = absurd (no q)
+    by false z q = absurd (no (sym (lt-ltb 0 n some-n) ∙ q))
 
 unfound : (l : Layout) (w : Weighing) (v : View) (es : List Edge) (count : ℕ) (ends : List Bool) (low : ℕ) (t : List ℤ) → Blank (toldOf l w v es count ends low t)
 unfound l w v es count ends low t =
-    told-keeps Blank l w (λ r x n h k. noted-blank w r x n k) v es count ends low t (λ e. (refl, refl))
+    told-keeps Blank l w (λ r x n some-n h k. noted-blank w r x n some-n k) v es count ends low t (λ e. (refl, refl))
 
 said-score : (r : Report) → Blank r → r .score ≡ scoreIn (resultOf r)
-said-score r h = by (r .found) refl
+said-score r h = by (ltb 0 (r .length)) refl
   where
-    by : (x : Bool) → r .found ≡ x → r .score ≡ scoreIn (cond x (some (r .score, r .length)) none)
+    by : (x : Bool) → ltb 0 (r .length) ≡ x → r .score ≡ scoreIn (cond x (some (r .score, r .length)) none)
     by true e = refl
     by false e = h e .0
 
 said-length : (r : Report) → Blank r → r .length ≡ lengthIn (resultOf r)
-said-length r h = by (r .found) refl
+said-length r h = by (ltb 0 (r .length)) refl
   where
-    by : (x : Bool) → r .found ≡ x → r .length ≡ lengthIn (cond x (some (r .score, r .length)) none)
+    by : (x : Bool) → ltb 0 (r .length) ≡ x → r .length ≡ lengthIn (cond x (some (r .score, r .length)) none)
     by true e = refl
     by false e = h e .1
 

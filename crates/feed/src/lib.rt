@@ -115,7 +115,7 @@ fn last_after(last: [i32; 8], values: &[i32]) -> [i32; 8]
     kept
 }
 
-// The ticks of a piece, each with its report. Its later ticks are all alike, so that after high + 2 of them the table stands
+// The ticks of a piece, each with its report. Its later ticks are all alike, so that after high + 1 of them the table stands
 // still: the rest of the reports is the last one again. Meanwhile the second table holds the flags of the first one's blocks.
 fn tell_piece(
     p: Pattern,
@@ -147,7 +147,7 @@ fn tell_piece(
     let ends = kind_flags(true, p);
     let count = p.edgecount as usize;
     let low = p.low as usize;
-    let still = p.high as u32 + 2;
+    let still = p.high as u32 + 1;
     let moved = least(duration, still) as usize;
     raise(second, l);
     tell_all(

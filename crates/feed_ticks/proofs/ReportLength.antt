@@ -1,8 +1,9 @@
 -- A report's length is no more than the greatest length.
-use Prim.Native.Nat.{ℕ, _≤_}
+use Prim.Native.Nat.{ℕ, _≤_, _<_}
 use native.Mathlib.Omega.{arith}
 use mathlib.Core.List.{List}
 use mathlib.Core.Bool.{Bool, true, false, cond}
+use lib.Dec.{ltb}
 use lib.IntN.{ℤ}
 use Rattle.weighting.specs.declared.Weighing.{Weighing}
 use Rattle.weighting.specs.Weightings.{weightingOf}
@@ -13,12 +14,12 @@ use Rattle.table.specs.declared.report.Report.{Report}
 use Rattle.table.specs.Reports.{noted, toldOf}
 use Rattle.table.proofs.Told.{told-keeps}
 
-noted-low : (w : Weighing) (high : ℕ) (r : Report) (v : ℤ) (n : ℕ) → n ≤ high → r .length ≤ high → noted w r v n .length ≤ high
+noted-low : (w : Weighing) (high : ℕ) (r : Report) (v : ℤ) (n : ℕ) → 0 < n → n ≤ high → r .length ≤ high → noted w r v n .length ≤ high
 unfolding noted
-noted-low w high r v n h k = by (r .found) (weightingOf w .order .atLeast v (r .score))
+noted-low w high r v n _ h k = by (ltb 0 (r .length)) (weightingOf w .order .atLeast v (r .score))
   where
     new : Report
-    new = record { found = true; score = v; length = n }
+    new = record { score = v; length = n }
 
     by : (y z : Bool) → cond y (cond z new r) new .length ≤ high
     by true true = h

@@ -1,9 +1,11 @@
--- Numbers in a row; the cells of a table; how large worths come; what is written is held; the ticks of a piece in a book;
+-- Numbers in a row; the cells of a table; how large worths come; what is written is held; long pieces; the ticks of a
+-- piece in a book;
 -- what holds between calls; answers in numbers; demand 3; what the state and the cells hold.
 pub mod Numbers
 pub mod CellLaws
 pub mod Sizes
 pub mod Written
+pub mod Still
 pub mod PieceViews
 pub mod Between
 pub mod Answers

@@ -17,7 +17,8 @@ use Rattle.cells.specs.declared.Layout.{Layout}
 use Rattle.cells.specs.Index.{codeOf, clocksAt, ticked, blockAt}
 use Rattle.cells.proofs.Blocks.{below-block}
 use Rattle.table.specs.declared.View.{View}
-use Rattle.table.specs.Moves.{cellAt, marked, each, moved, still, edgeIn, leaveOf, spreadOf, stayOf, visitOf, visitsOf, passOf, gainAt, placeOf, placesOf, rowOf, rowsOf, startsOf}
+use Rattle.steps.specs.Steps.{edgeIn}
+use Rattle.table.specs.Moves.{cellAt, marked, each, moved, still, leaveOf, spreadOf, stayOf, visitOf, visitsOf, passOf, gainAt, placeOf, placesOf, rowOf, rowsOf, startsOf}
 
 pub record Kept (b : ℕ) (t u : List ℤ) : Type 0 where
   pub long : length u ≡ length t

@@ -9,7 +9,7 @@ use lib.Dec.{eqb}
 use lib.ListN.{length, getD, set, length-set}
 use lib.Seq.{getD-set-same, getD-set-other}
 use Rattle.pattern.specs.declared.Edge.{Edge}
-use Rattle.table.specs.Moves.{edgeIn}
+use Rattle.steps.specs.Steps.{edgeIn}
 use Rattle.table.specs.Asks.{Sourced, Hop, Linked}
 
 pub record LinkedFrom (es : List Edge) (count i : ℕ) (links : List ℕ) : Type 0 where

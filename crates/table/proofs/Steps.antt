@@ -7,8 +7,8 @@ use mathlib.Core.Path.{_≡_, refl, sym, ap, _∙_}
 use mathlib.Core.Bool.{Bool, true, false, cond}
 use mathlib.Core.List.{List}
 use mathlib.Core.Logic.{inl, inr}
-use borrow.Author.Tests.{eq-eqb, ne-eqb, ltb-true, ltb-false}
-use lib.Dec.{ltb}
+use borrow.Author.Tests.{eq-eqb, ne-eqb, eqb-true, eqb-false, ltb-true, ltb-false}
+use lib.Dec.{eqb, ltb}
 use lib.ListN.{length, getD, set}
 use lib.IntN.{ℤ, natAbs}
 use lib.Signed.{ltZ}
@@ -19,7 +19,7 @@ use Rattle.weighting.specs.Weightings.{weightingOf}
 use Rattle.weighting.specs.Cell.{mark}
 use Rattle.weighting.proofs.Sizes.{combine-fits}
 use Rattle.pattern.specs.declared.Edge.{Edge}
-use Rattle.pattern.specs.Clocks.{Clocks, guardsHold, afterResets}
+use Rattle.pattern.specs.Clocks.{Clocks, clockAt, guardsHold, afterResets}
 use Rattle.cells.specs.declared.Layout.{Layout}
 use Rattle.cells.specs.Layout.{Laid, cellsIn}
 use Rattle.cells.specs.Index.{codeOf, clocksAt, ticked, Within, blockAt}
@@ -27,8 +27,11 @@ use Rattle.cells.proofs.Digits.{ticked-within, coded, block-some}
 use Rattle.cells.proofs.Blocks.{row-next, row-fits, block-low, block-in}
 use Rattle.table.specs.declared.View.{View}
 use Rattle.table.specs.declared.Sent.{Sent}
-use Rattle.table.specs.Moves.{cellAt, marked, cleared, each, offered, moved, still, edgeIn, leaveOf, leavesOf, spreadOf, stayOf, sentOf, visitOf, visitsOf, passOf, gainAt, placeOf, placesOf, rowOf, rowsOf, startsOf, begun, tickOf, openOf}
-use Rattle.table.specs.Asks.{Sized, Known, Whole, Bounded, Sourced, Hop, Linked, Edges, Moving, Passing, Ready, Placing, Rows}
+use Rattle.table.specs.declared.report.Report.{Report}
+use Rattle.steps.specs.Steps.{edgeIn}
+use Rattle.table.specs.Moves.{cellAt, marked, cleared, each, offered, moved, still, leaveOf, leavesOf, spreadOf, stayOf, sentOf, visitOf, visitsOf, passOf, gainAt, gainIn, placeOf, placesOf, rowOf, rowsOf, startsOf, begun, tickOf, openOf}
+use Rattle.table.specs.Reports.{toldPass, toldPlace}
+use Rattle.table.specs.Asks.{Sized, Known, Whole, Bounded, Sourced, Hop, Routed, Edges, Moving, Passing, Ready, Placing, Rows}
 use Rattle.table.proofs.Kept.{Kept, row-kept, marked-kept, pass-kept}
 
 -- ---- sizes
@@ -76,6 +79,35 @@ moved-no l w e to cs x t h = rw h
 
 pub code-lt : (l : Layout) (d : Clocks) (j : ℕ) → Laid l → Within (l .radices) d → j ≡ codeOf (l .radices) d → j < l .block
 code-lt l d j h i q = rw q (coded l d h i .whole)
+
+-- no clock is past its ceiling, which is at most 1,001
+pub small-clocks : (l : Layout) (cs : Clocks) → Laid l → Within (l .radices) cs → (k : ℕ) → k < 4 → clockAt cs k < 65536
+small-clocks l cs laid w k low = by (eqb k 0) refl (eqb k 1) refl (eqb k 2) refl
+  where
+    by : (a : Bool) → eqb k 0 ≡ a → (b : Bool) → eqb k 1 ≡ b → (c : Bool) → eqb k 2 ≡ c → clockAt cs k < 65536
+    by true e b f c g =
+        let q : k ≡ 0 = eqb-true k 0 e in
+        let x = w .in0 in
+        let y = laid .low 0 in
+        rw q (omega arith)
+    by false e true f c g =
+        let q : k ≡ 1 = eqb-true k 1 f in
+        let x = w .in1 in
+        let y = laid .low 1 in
+        rw q (omega arith)
+    by false e false f true g =
+        let q : k ≡ 2 = eqb-true k 2 g in
+        let x = w .in2 in
+        let y = laid .low 2 in
+        rw q (omega arith)
+    by false e false f false g =
+        let a = eqb-false k 0 e in
+        let b = eqb-false k 1 f in
+        let c = eqb-false k 2 g in
+        let q : k ≡ 3 = omega arith in
+        let x = w .in3 in
+        let y = laid .low 3 in
+        rw q (omega arith)
 
 pub grown-fits : (w : Weighing) (v g : ℤ) → natAbs v ≤ 2 ^ 60 → natAbs g ≤ 8000000 → SFits w64 (weightingOf w .combine v g)
 grown-fits w v g a b = combine-fits w v g (omega arith)
@@ -249,19 +281,32 @@ pass-asks t l g n stage p laid small st pl r =
       bounded = bounded-part _ _ (r .bounded) (omega arith);
     }
 
-module _ (t : List ℤ) (l : Layout) (w : Weighing) (es : List Edge) (count : ℕ) (g h : ℤ) (n p a b : ℕ) (r : Placing t l g h n p)
-    (ea : a ≡ blockAt l n 0 p) (eb : b ≡ blockAt l n 1 p) where
-  pub place-first : Passing t l g n p a
-  place-first = rw ea (pass-asks t l g n 0 p (r .laid) (r .entered) (omega arith) (r .place) (r .ready))
+module _ (l : Layout) (w : Weighing) (es : List Edge) (count : ℕ) (g h : ℤ) (n p : ℕ) where
+  -- what a stage does to the table, and what it tells of the table t
+  abbrev pub stagePass : ℕ → List ℤ → List ℤ
+  stagePass stage = passOf l w es count (gainIn g h stage) n p (blockAt l n stage p)
 
-  pub place-second : (u : List ℤ) → u ≡ passOf l w es count g n p a t → Passing u l h n p b
-  place-second u e =
-      let s : Kept ((n + 1) * l .row) t u = rw e (pass-kept l w n es count g p a t) in
-      rw eb (pass-asks u l h n 1 p (r .laid) (r .staying) (omega arith) (r .place) (ready-kept s (r .ready)))
+  abbrev pub stageTold : (tells : List Bool) → List ℤ → ℕ → Report → Report
+  stageTold tells t stage = toldPass l w es count tells (gainIn g h stage) n p (blockAt l n stage p) t
 
-  pub place-moved : (u x : List ℤ) → u ≡ passOf l w es count g n p a t → x ≡ passOf l w es count h n p b u → x ≡ placeOf l w es count g h n p t
-  unfolding placeOf
-  place-moved u x e f = f ∙ rw (e, ea, eb)
+  stage-sized : (stage : ℕ) → Sized 8000000 g → Sized 8000000 h → Sized 8000000 (gainIn g h stage)
+  stage-sized stage a b = by (eqb stage 0)
+    where
+      by : (c : Bool) → Sized 8000000 (cond c g h)
+      by true = a
+      by false = b
+
+  pub stage-asks : (t u : List ℤ) (stage at : ℕ) → Placing t l g h n p → stage < 2 → Kept ((n + 1) * l .row) t u → at ≡ blockAt l n stage p → Passing u l (gainIn g h stage) n p at
+  stage-asks t u stage at r low k e =
+      rw e (pass-asks u l (gainIn g h stage) n stage p (r .laid) (stage-sized stage (r .entered) (r .staying)) (omega arith) (r .place) (ready-kept k (r .ready)))
+
+  pub stages-place : (stage : ℕ) (t u : List ℤ) → stage ≡ 2 → u ≡ each stagePass stage t → u ≡ placeOf l w es count g h n p t
+  unfolding each placeOf
+  stages-place stage t u two e = rw two at e
+
+  pub stages-told : (tells : List Bool) (t : List ℤ) (stage : ℕ) (r q : Report) → stage ≡ 2 → q ≡ each (stageTold tells t) stage r → q ≡ toldPlace l w es count tells g h n p t r
+  unfolding each toldPlace
+  stages-told tells t stage r q two e = rw two at e
 
 -- ---- rows
 
@@ -269,8 +314,8 @@ pub known-place : (t : List ℤ) (l : Layout) (v : View) (es : List Edge) (count
 known-place t l v es count g h n p k r low eg eh =
     rw (eg, eh) (record { laid = k .laid; entered = k .entered p low; staying = k .staying p low; place = low; ready = r })
 
-pub known-edges : {l : Layout} {v : View} {es : List Edge} {count : ℕ} {links : List ℕ} → Known l v es count → Linked es count links → Edges l es count links
-known-edges k h = record { few = k .edges; tos = k .tos; linked = h }
+pub known-edges : {l : Layout} {v : View} {es : List Edge} {count : ℕ} {links steps : List ℕ} → Known l v es count → Routed es count links steps → Edges l es count links steps
+known-edges k h = record { few = k .edges; tos = k .tos; routed = h }
 
 pub known-sourced : {l : Layout} {v : View} {es : List Edge} {count : ℕ} → Known l v es count → Sourced es count
 known-sourced k =

@@ -22,7 +22,8 @@ use Rattle.cells.proofs.Blocks.{row-next, block-low}
 use Rattle.table.specs.declared.View.{View}
 use Rattle.table.specs.declared.Sent.{Sent}
 use Rattle.table.specs.declared.report.Report.{Report}
-use Rattle.table.specs.Moves.{cellAt, cleared, each, edgeIn, gainAt, sentOf}
+use Rattle.steps.specs.Steps.{edgeIn}
+use Rattle.table.specs.Moves.{cellAt, cleared, each, gainAt, sentOf}
 use Rattle.table.specs.Reports.{noReport, noted, toldMove, toldLeave, toldVisit, toldVisits, toldPass, toldPlace, toldPlaces, tellsAt, toldRow, toldRows, toldOf}
 use Rattle.table.proofs.Kept.{Kept, kept-less, marked-kept}
 use Rattle.table.proofs.Steps.{each-skip}
@@ -135,12 +136,11 @@ module _ (l : Layout) (w : Weighing) (es : List Edge) (count : ℕ) (tells : Lis
   unfolding toldPass
   told-pass-no r m = rw m
 
-pub told-place : (l : Layout) (w : Weighing) (es : List Edge) (count : ℕ) (tells : List Bool) (g h : ℤ) (n p a b : ℕ) (t u : List ℤ) (r q x : Report) → Laid l → n ≤ l .high → p < l .places → a ≡ blockAt l n 0 p → b ≡ blockAt l n 1 p → Kept ((n + 1) * l .row) t u → q ≡ toldPass l w es count tells g n p a t r → x ≡ toldPass l w es count tells h n p b u q → x ≡ toldPlace l w es count tells g h n p t r
-unfolding toldPlace
-told-place l w es count tells g h n p a b t u r q x laid low place ea eb kept f k =
-    let f′ : q ≡ toldPass l w es count tells g n p (blockAt l n 0 p) t r = rw ea at f in
-    let k′ : x ≡ toldPass l w es count tells h n p (blockAt l n 1 p) u q = rw eb at k in
-    k′ ∙ pass-same l w es count tells n t u kept h p (blockAt l n 1 p) q (block-before l w es count tells n t u kept laid low 1 p (omega arith) place) ∙ ap (toldPass l w es count tells h n p (blockAt l n 1 p) t) f′
+-- a stage of a place, told of the table u, of which the rows up to n are as in t
+pub stage-same : (l : Layout) (w : Weighing) (es : List Edge) (count : ℕ) (tells : List Bool) (g : ℤ) (n stage p a : ℕ) (t u : List ℤ) (r q : Report) → Laid l → n ≤ l .high → stage < 2 → p < l .places → a ≡ blockAt l n stage p → Kept ((n + 1) * l .row) t u → q ≡ toldPass l w es count tells g n p a u r → q ≡ toldPass l w es count tells g n p (blockAt l n stage p) t r
+stage-same l w es count tells g n stage p a t u r q laid low two place ea kept f =
+    let f′ : q ≡ toldPass l w es count tells g n p (blockAt l n stage p) u r = rw ea at f in
+    f′ ∙ pass-same l w es count tells n t u kept g p (blockAt l n stage p) r (block-before l w es count tells n t u kept laid low stage p (omega arith) place)
 
 pub told-row : (l : Layout) (w : Weighing) (v : View) (es : List Edge) (count : ℕ) (ends tells : List Bool) (low n : ℕ) (t u : List ℤ) (r q : Report) → Laid l → n ≤ l .high → u ≡ cleared t ((n + 1) * l .row) ((n + 1) * l .row + l .row) → tells ≡ tellsAt ends low (n + 1) → q ≡ toldPlaces l w v es count tells n (l .places) u r → q ≡ toldRow l w v es count ends low n t r
 told-row l w v es count ends tells low n t u r q laid short f g h =
@@ -154,7 +154,7 @@ unfolding each
 each-keeps I f h zero a k = k
 each-keeps I f h (suc m) a k = h m (each f m a) (each-keeps I f h m a k)
 
-module _ (I : Report → Type 0) (l : Layout) (w : Weighing) (step : (r : Report) (v : ℤ) (n : ℕ) → n ≤ l .high → I r → I (noted w r v n)) where
+module _ (I : Report → Type 0) (l : Layout) (w : Weighing) (step : (r : Report) (v : ℤ) (n : ℕ) → 0 < n → n ≤ l .high → I r → I (noted w r v n)) where
   cond-keeps : (b : Bool) (r q : Report) → I r → I q → I (cond b r q)
   cond-keeps true r q h k = h
   cond-keeps false r q h k = k
@@ -164,7 +164,7 @@ module _ (I : Report → Type 0) (l : Layout) (w : Weighing) (step : (r : Report
     unfolding toldLeave toldMove
     leave-keeps p cs x e r h =
         cond-keeps (eqb (e .from) p) (cond (guardsHold cs e && getD tells (e .to) false) (noted w r x (n + 1)) r) r
-        (cond-keeps (guardsHold cs e && getD tells (e .to) false) (noted w r x (n + 1)) r (step r x (n + 1) (omega arith) h) h) h
+        (cond-keeps (guardsHold cs e && getD tells (e .to) false) (noted w r x (n + 1)) r (step r x (n + 1) (omega arith) (omega arith) h) h) h
 
     pass-keeps : (g : ℤ) (p at : ℕ) (t : List ℤ) (r : Report) → I r → I (toldPass l w es count tells g n p at t r)
     unfolding toldPass toldVisit

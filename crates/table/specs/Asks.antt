@@ -15,7 +15,8 @@ use Rattle.cells.specs.Layout.{cellsIn, Laid}
 use Rattle.cells.specs.Index.{Within}
 use Rattle.table.specs.declared.View.{View}
 use Rattle.table.specs.declared.Spot.{Spot}
-use Rattle.table.specs.Moves.{cellAt, gainAt, edgeIn}
+use Rattle.steps.specs.Steps.{edgeIn, Fit, Steps}
+use Rattle.table.specs.Moves.{cellAt, gainAt}
 
 -- z is the mark, or at most k in size.
 abbrev pub Sized : ℕ → ℤ → Type 0
@@ -24,7 +25,7 @@ Sized k z = (z ≡ mark) ⊎ (natAbs z ≤ k)
 -- ---- what is public
 
 -- The layout, the view of a tick and the edges fit together: each gain is the mark or at most 8,000,000 in size (four
--- tests of at most 2,000,000), and each edge leads from a place to a place.
+-- tests of at most 2,000,000), and each edge leads from a place to a place and asks about the four clocks.
 pub record Known (l : Layout) (v : View) (es : List Edge) (count : ℕ) : Type 0 where
   pub laid : Laid l
   pub entered : (p : ℕ) → p < l .places → Sized 8000000 (gainAt (v .entered) p)
@@ -32,6 +33,7 @@ pub record Known (l : Layout) (v : View) (es : List Edge) (count : ℕ) : Type 0
   pub edges : count ≤ 32
   pub froms : (i : ℕ) → i < count → edgeIn es i .from < l .places
   pub tos : (i : ℕ) → i < count → edgeIn es i .to < l .places
+  pub fits : (i : ℕ) → i < count → Fit (edgeIn es i)
 
 -- The table has all cells, and a cell of length n holds the mark or a worth of at most 32,760,000,000 + n × 8,000,000
 -- in size. A tick leaves it so.
@@ -110,11 +112,16 @@ pub record Linked (es : List Edge) (count : ℕ) (links : List ℕ) : Type 0 whe
   pub firsts : (p : ℕ) → p < 16 → Hop es count p 0 (getD links (32 + p) 0)
   pub nexts : (i : ℕ) → i < count → Hop es count (edgeIn es i .from) (i + 1) (getD links i 0)
 
--- The edges lead into the layout, and can be gone through place by place.
-pub record Edges (l : Layout) (es : List Edge) (count : ℕ) (links : List ℕ) : Type 0 where
+-- The edges can be gone through place by place, each by its step.
+pub record Routed (es : List Edge) (count : ℕ) (links steps : List ℕ) : Type 0 where
+  pub linked : Linked es count links
+  pub made : Steps es count steps
+
+-- The edges lead into the layout, and can be gone through.
+pub record Edges (l : Layout) (es : List Edge) (count : ℕ) (links steps : List ℕ) : Type 0 where
   pub few : count ≤ 32
   pub tos : (i : ℕ) → i < count → edgeIn es i .to < l .places
-  pub linked : Linked es count links
+  pub routed : Routed es count links steps
 
 -- A worth with these clocks can be moved into row n + 1.
 pub record Moving (t : List ℤ) (l : Layout) (n : ℕ) (cs : Clocks) : Type 0 where

@@ -14,6 +14,7 @@ use Rattle.weighting.specs.Cell.{mark, cellOf, heldIn}
 use Rattle.pattern.specs.declared.Edge.{Edge}
 use Rattle.pattern.specs.Sound.{noGuard}
 use Rattle.pattern.specs.Clocks.{Clocks, guardsHold, afterResets}
+use Rattle.steps.specs.Steps.{edgeIn}
 use Rattle.cells.specs.declared.Layout.{Layout}
 use Rattle.cells.specs.Layout.{cellsIn}
 use Rattle.cells.specs.Index.{codeOf, clocksAt, ticked, blockAt}
@@ -52,9 +53,6 @@ moved l w e to cs x t =
 -- Staying is an edge from the place to itself, without guards, that resets no clock.
 abbrev pub still : ℕ → Edge
 still p = record { from = p; to = p; guards = replicate 4 noGuard; count = 0; resets = replicate 4 false }
-
-abbrev pub edgeIn : List Edge → ℕ → Edge
-edgeIn es i = getD es i (record { from = 0; to = 0; guards = []; count = 0; resets = [] })
 
 -- From place p along e into length n + 1, just entered, if e leaves p.
 unfoldable pub leaveOf : Layout → Weighing → (n p : ℕ) → Clocks → (worth : ℤ) → Edge → List ℤ → List ℤ
@@ -98,6 +96,10 @@ passOf l w es count g n p at t = cond (ltZ mark g) (visitsOf l w es count g n p 
 -- What a tick gains in a place.
 abbrev pub gainAt : List ℤ → ℕ → ℤ
 gainAt gs p = getD gs p (pos 0)
+
+-- What a tick gains in a stage: 0 is just entered, 1 is staying.
+abbrev pub gainIn : (entered staying : ℤ) → (stage : ℕ) → ℤ
+gainIn g h stage = cond (eqb stage 0) g h
 
 -- The cells of length n in place p: those just entered, then those staying.
 unfoldable pub placeOf : Layout → Weighing → List Edge → (count : ℕ) → (entered staying : ℤ) → (n p : ℕ) → List ℤ → List ℤ

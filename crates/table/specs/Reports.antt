@@ -17,17 +17,19 @@ use Rattle.cells.specs.declared.Layout.{Layout}
 use Rattle.cells.specs.Index.{clocksAt, ticked, blockAt}
 use Rattle.table.specs.declared.View.{View}
 use Rattle.table.specs.declared.report.Report.{Report}
-use Rattle.table.specs.Moves.{cellAt, each, edgeIn, gainAt}
+use Rattle.steps.specs.Steps.{edgeIn}
+use Rattle.table.specs.Moves.{cellAt, each, gainAt}
 
+-- No run: "score 0 and length 0".
 abbrev pub noReport : Report
-noReport = record { found = false; score = pos 0; length = 0 }
+noReport = record { score = pos 0; length = 0 }
 
 -- A worth v of length n, after the report r.
 unfoldable pub noted : Weighing → Report → ℤ → ℕ → Report
 noted w r v n =
-    cond (r .found)
-    (cond (weightingOf w .order .atLeast v (r .score)) (record { found = true; score = v; length = n }) r)
-    (record { found = true; score = v; length = n })
+    cond (ltb 0 (r .length))
+    (cond (weightingOf w .order .atLeast v (r .score)) (record { score = v; length = n }) r)
+    (record { score = v; length = n })
 
 -- A worth with these clocks, both a tick later, goes along e to length n + 1: noted if a run may end where e leads.
 unfoldable pub toldMove : Weighing → (tells : List Bool) → (n : ℕ) → Clocks → (worth : ℤ) → Edge → Report → Report
@@ -37,11 +39,15 @@ toldMove w tells n cs x e r = cond (guardsHold cs e && getD tells (e .to) false)
 unfoldable pub toldLeave : Weighing → (tells : List Bool) → (n p : ℕ) → Clocks → (worth : ℤ) → Edge → Report → Report
 toldLeave w tells n p cs x e r = cond (eqb (e .from) p) (toldMove w tells n cs x e r) r
 
+-- Along the first i edges.
+abbrev pub toldLeaves : Weighing → List Edge → (tells : List Bool) → (n p : ℕ) → Clocks → (worth : ℤ) → (i : ℕ) → Report → Report
+toldLeaves w es tells n p cs x i r = each (λ k. toldLeave w tells n p cs x (edgeIn es k)) i r
+
 -- Cell k, with these clocks, of the block of length n and place p that starts at `at`: if it holds a worth, all its moves.
 unfoldable pub toldVisit : Layout → Weighing → List Edge → (count : ℕ) → (tells : List Bool) → (gain : ℤ) → (n p at k : ℕ) → Clocks → List ℤ → Report → Report
 toldVisit l w es count tells g n p at k cs t r =
     cond (ltZ mark (cellAt t (at + k)))
-    (each (λ i. toldLeave w tells n p (ticked (l .radices) cs) (weightingOf w .combine (cellAt t (at + k)) g) (edgeIn es i)) count r)
+    (toldLeaves w es tells n p (ticked (l .radices) cs) (weightingOf w .combine (cellAt t (at + k)) g) count r)
     r
 
 -- The first m cells of the block.

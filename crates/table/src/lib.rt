@@ -17,6 +17,10 @@ use pattern::Guard;
 use pattern::Sign;
 use pattern::clocks::after_resets;
 use pattern::clocks::guards_hold;
+use steps::after;
+use steps::goes;
+use steps::leads_to;
+use steps::steps_of;
 use weighting::MARK;
 use weighting::Weighing;
 use weighting::choose;
@@ -30,13 +34,14 @@ ghost use lib.IntN.{pos};
 ghost use lib.Signed.{ltZ};
 ghost use Rattle.weighting.specs.Cell.{mark};
 ghost use Rattle.cells.specs.Layout.{Laid, cellsIn};
-ghost use Rattle.cells.specs.Index.{Within, blockAt, Placed};
-ghost use Rattle.pattern.specs.Clocks.{guardsHold};
-ghost use Rattle.table.specs.Moves.{cellAt, marked, cleared, offered, still, moved, stayOf, sentOf, visitsOf, passOf};
-ghost use Rattle.table.specs.Moves.{placeOf, placesOf, rowOf, rowsOf, startsOf, begun, tickOf, openOf};
-ghost use Rattle.table.specs.Reports.{toldMove, toldVisits, toldPass, toldPlace, toldPlaces, tellsAt, toldRow, toldOf};
-ghost use Rattle.table.specs.Asks.{Known, Ticking, Filed, Sourced, Linked, Edges, Moving, Passing, Placing, Ready, Rows};
-ghost use Rattle.table.specs.Asks.{Occupied, Staying, flagAt, Block, Flagged, FlagOf, Marked, Raised};
+ghost use Rattle.cells.specs.Index.{codeOf, Within, blockAt, Placed};
+ghost use Rattle.pattern.specs.Clocks.{guardsHold, afterResets};
+ghost use Rattle.steps.specs.Steps.{StepOf};
+ghost use Rattle.table.specs.Moves.{cellAt, marked, cleared, offered, still, moved, leavesOf, stayOf, sentOf, visitsOf};
+ghost use Rattle.table.specs.Moves.{passOf, gainIn, placeOf, placesOf, rowOf, rowsOf, startsOf, begun, tickOf, openOf};
+ghost use Rattle.table.specs.Reports.{toldMove, toldLeaves, toldVisits, toldPass, toldPlace, toldPlaces, tellsAt, toldRow, toldOf};
+ghost use Rattle.table.specs.Asks.{Known, Ticking, Filed, Sourced, Linked, Routed, Edges, Moving, Passing, Placing};
+ghost use Rattle.table.specs.Asks.{Ready, Rows, Occupied, Staying, flagAt, Block, Flagged, FlagOf, Marked, Raised};
 
 // What one tick gains in each place, by stage: just entered, or staying. MARK where the place cannot be stayed in.
 pub struct View {
@@ -111,59 +116,62 @@ fn stay(place: u8) -> Edge
 }
 
 // A worth with these clocks, both a tick later, moved along e into the block at `to`, if e can be taken; its flag is then
-// no mark.
+// no mark. Whether e can be taken, and to which cell, is given: only the contract speaks of the layout, e and the clocks.
 fn turn(
     table: &mut [i64],
     flags: &mut [i64],
     l: Layout,
     w: Weighing,
     e: Edge,
+    clocks: [u32; 4],
+    can: bool,
+    cell: usize,
     to: usize,
     flag: usize,
-    clocks: [u32; 4],
     worth: i64,
-) -> bool
-    requires { ⌜ (Laid l) × (Within (l .radices) clocks) × (to + l .block ≤ length (now table))
-        × (flag < length (now flags)) ⌝ }
-    ensures { λ r. ⌜ r ≡ guardsHold clocks e ⌝ }
+)
+    requires { ⌜ (Laid l) × (Within (l .radices) clocks) × (to + l .block ≤ length (now table)) × (flag < length (now flags))
+        × (can ≡ guardsHold clocks e) × (cell ≡ codeOf (l .radices) (afterResets e clocks)) ⌝ }
     ensures { λ _. ⌜ now (flags .exit) ≡ cond (guardsHold clocks e) (set (now (flags .entry)) flag (pos 0)) (now (flags .entry)) ⌝ }
     ensures { λ _. ⌜ now (table .exit) ≡ moved l w e to clocks worth (now (table .entry)) ⌝ }
 {
-    if guards_hold(e, clocks) {
-        let reset = after_resets(e, clocks);
-        let j = code(l, reset);
-        offer(table, w, to + j, worth);
+    if can {
+        offer(table, w, to + cell, worth);
         flags[flag] = 0;
-        true
-    } else {
-        false
     }
 }
 
-// Along e into length n + 1, just entered, and into the report if a run of this length may end there.
+// Along e, which is step i, into length n + 1, just entered, and into the report if a run of this length may end there.
+// Only the contract speaks of e.
 fn leave(
     table: &mut [i64],
     flags: &mut [i64],
     l: Layout,
     w: Weighing,
     e: Edge,
+    steps: &[u32; 416],
+    i: usize,
     tells: &[bool; 16],
     n: usize,
     clocks: [u32; 4],
     worth: i64,
     r: Report,
 ) -> Report
-    requires { ⌜ (Moving (now table) l n clocks) × (e .to < l .places) × (Flagged l (now table) (now flags)) ⌝ }
+    requires { ⌜ (Moving (now table) l n clocks) × (e .to < l .places) × (Flagged l (now table) (now flags))
+        × (i < 32) × (StepOf e (now steps) i) ⌝ }
     ensures { λ q. ⌜ q ≡ toldMove w (now (tells .entry)) n clocks worth e r ⌝ }
     ensures { λ _. ⌜ now (table .exit) ≡ moved l w e (blockAt l (n + 1) 0 (e .to)) clocks worth (now (table .entry)) ⌝ }
     ensures { λ _. ⌜ Marked l (now (table .exit)) (now (flags .entry)) (now (flags .exit)) ⌝ }
 {
-    let end = e.to as usize;
+    let end = leads_to(steps, i) as usize;
     let to = block_at(l, n + 1, 0, end);
     let flag = flag_at(l, n + 1, 0, end);
-    let taken = turn(table, flags, l, w, e, to, flag, clocks, worth);
+    let can = goes(steps, i, clocks);
+    let reset = after(steps, i, clocks);
+    let cell = code(l, reset);
+    turn(table, flags, l, w, e, clocks, can, cell, to, flag, worth);
     let told = tells[end];
-    note_if(w, taken & told, r, worth, n + 1)
+    note_if(w, can & told, r, worth, n + 1)
 }
 
 // What an occupied cell sends along the edges out of its place: its clocks and its worth a tick later.
@@ -194,7 +202,10 @@ fn visit(
     let e = stay(p as u8);
     let to = block_at(l, n + 1, 1, p);
     let flag = flag_at(l, n + 1, 1, p);
-    turn(table, flags, l, w, e, to, flag, ticked, grown);
+    let can = guards_hold(e, ticked);
+    let reset = after_resets(e, ticked);
+    let cell = code(l, reset);
+    turn(table, flags, l, w, e, ticked, can, cell, to, flag, grown);
     Sent {
         clocks: ticked,
         worth: grown,
@@ -226,8 +237,54 @@ fn occupied(table: &[i64], at: usize, k: usize, size: usize) -> Spot
     }
 }
 
-// All occupied cells of the block, from the first one on, each with its clocks, and from each all edges out of p. The two
-// loops stand together so that the edges are copied once a block and not once a cell.
+// A worth with these clocks, both a tick later, along each edge out of p: only the contract speaks of the edges, the steps
+// are gone through.
+fn leaves(
+    table: &mut [i64],
+    flags: &mut [i64],
+    l: Layout,
+    w: Weighing,
+    edges: [Edge; 32],
+    count: usize,
+    links: &[u8; 48],
+    steps: &[u32; 416],
+    tells: &[bool; 16],
+    n: usize,
+    p: usize,
+    clocks: [u32; 4],
+    worth: i64,
+    r: Report,
+) -> Report
+    requires { ⌜ (Moving (now table) l n clocks) × (Edges l edges count (now links) (now steps)) × (p < l .places)
+        × (Flagged l (now table) (now flags)) ⌝ }
+    ensures { λ q. ⌜ q ≡ toldLeaves w edges (now (tells .entry)) n p clocks worth count r ⌝ }
+    ensures { λ _. ⌜ now (table .exit) ≡ leavesOf l w edges n p clocks worth count (now (table .entry)) ⌝ }
+    ensures { λ _. ⌜ Marked l (now (table .exit)) (now (flags .entry)) (now (flags .exit)) ⌝ }
+{
+    let mut best = r;
+    let mut i = links[32 + p] as usize;
+    while i < count {
+        let e = edges[i];
+        best = leave(
+            table,
+            flags,
+            l,
+            w,
+            e,
+            steps,
+            i,
+            tells,
+            n,
+            clocks,
+            worth,
+            best,
+        );
+        i = links[i] as usize;
+    }
+    best
+}
+
+// All occupied cells of the block, from the first one on, each with its clocks.
 fn visits(
     table: &mut [i64],
     flags: &mut [i64],
@@ -236,6 +293,7 @@ fn visits(
     edges: [Edge; 32],
     count: usize,
     links: &[u8; 48],
+    steps: &[u32; 416],
     tells: &[bool; 16],
     gain: i64,
     n: usize,
@@ -244,14 +302,13 @@ fn visits(
     start: Spot,
     r: Report,
 ) -> Report
-    requires { ⌜ (Passing (now table) l gain n p at) × (Edges l edges count (now links)) × (ltZ mark gain ≡ true)
+    requires { ⌜ (Passing (now table) l gain n p at) × (Edges l edges count (now links) (now steps)) × (ltZ mark gain ≡ true)
         × (Occupied (now table) at (l .block) 0 start) × (Flagged l (now table) (now flags)) ⌝ }
     ensures { λ q. ⌜ q ≡ toldVisits l w edges count (now (tells .entry)) gain n p at (l .block) (now (table .entry)) r ⌝ }
     ensures { λ _. ⌜ now (table .exit) ≡ visitsOf l w edges count gain n p at (l .block) (now (table .entry)) ⌝ }
     ensures { λ _. ⌜ Marked l (now (table .exit)) (now (flags .entry)) (now (flags .exit)) ⌝ }
 {
     let size = l.block;
-    let first = links[32 + p] as usize;
     let mut best = r;
     let mut last: usize = 0;
     let mut clocks: [u32; 4] = [0, 0, 0, 0];
@@ -263,12 +320,22 @@ fn visits(
         let sent = visit(table, flags, l, w, gain, n, p, here, v);
         let ticked = sent.clocks;
         let worth = sent.worth;
-        let mut i = first;
-        while i < count {
-            let e = edges[i];
-            best = leave(table, flags, l, w, e, tells, n, ticked, worth, best);
-            i = links[i] as usize;
-        }
+        best = leaves(
+            table,
+            flags,
+            l,
+            w,
+            edges,
+            count,
+            links,
+            steps,
+            tells,
+            n,
+            p,
+            ticked,
+            worth,
+            best,
+        );
         last = k;
         clocks = here;
         spot = occupied(table, at, last + 1, size);
@@ -285,6 +352,7 @@ fn pass(
     edges: [Edge; 32],
     count: usize,
     links: &[u8; 48],
+    steps: &[u32; 416],
     tells: &[bool; 16],
     gain: i64,
     n: usize,
@@ -293,7 +361,7 @@ fn pass(
     flag: usize,
     r: Report,
 ) -> Report
-    requires { ⌜ (Passing (now table) l gain n p at) × (Edges l edges count (now links)) × (Flagged l (now table) (now flags))
+    requires { ⌜ (Passing (now table) l gain n p at) × (Edges l edges count (now links) (now steps)) × (Flagged l (now table) (now flags))
         × (FlagOf l at flag) ⌝ }
     ensures { λ q. ⌜ q ≡ toldPass l w edges count (now (tells .entry)) gain n p at (now (table .entry)) r ⌝ }
     ensures { λ _. ⌜ now (table .exit) ≡ passOf l w edges count gain n p at (now (table .entry)) ⌝ }
@@ -312,6 +380,7 @@ fn pass(
                     edges,
                     count,
                     links,
+                    steps,
                     tells,
                     gain,
                     n,
@@ -326,7 +395,14 @@ fn pass(
     r
 }
 
-// The cells of length n in place p, of both stages.
+// What a tick gains in a stage.
+fn gain_in(entered: i64, staying: i64, stage: usize) -> i64
+    ensures { λ r. ⌜ r ≡ gainIn entered staying stage ⌝ }
+{
+    if stage == 0 { entered } else { staying }
+}
+
+// The cells of length n in place p, of both stages. One call of `pass`, so that the compiler puts it into the loop.
 fn place(
     table: &mut [i64],
     flags: &mut [i64],
@@ -335,6 +411,7 @@ fn place(
     edges: [Edge; 32],
     count: usize,
     links: &[u8; 48],
+    steps: &[u32; 416],
     tells: &[bool; 16],
     entered: i64,
     staying: i64,
@@ -342,48 +419,38 @@ fn place(
     p: usize,
     r: Report,
 ) -> Report
-    requires { ⌜ (Placing (now table) l entered staying n p) × (Edges l edges count (now links))
+    requires { ⌜ (Placing (now table) l entered staying n p) × (Edges l edges count (now links) (now steps))
         × (Flagged l (now table) (now flags)) ⌝ }
     ensures { λ q. ⌜ q ≡ toldPlace l w edges count (now (tells .entry)) entered staying n p (now (table .entry)) r ⌝ }
     ensures { λ _. ⌜ now (table .exit) ≡ placeOf l w edges count entered staying n p (now (table .entry)) ⌝ }
     ensures { λ _. ⌜ Marked l (now (table .exit)) (now (flags .entry)) (now (flags .exit)) ⌝ }
 {
-    let a = block_at(l, n, 0, p);
-    let b = block_at(l, n, 1, p);
-    let c = flag_at(l, n, 0, p);
-    let d = flag_at(l, n, 1, p);
-    let first = pass(
-        table,
-        flags,
-        l,
-        w,
-        edges,
-        count,
-        links,
-        tells,
-        entered,
-        n,
-        p,
-        a,
-        c,
-        r,
-    );
-    pass(
-        table,
-        flags,
-        l,
-        w,
-        edges,
-        count,
-        links,
-        tells,
-        staying,
-        n,
-        p,
-        b,
-        d,
-        first,
-    )
+    let mut best = r;
+    let mut stage: usize = 0;
+    while stage < 2 {
+        let gain = gain_in(entered, staying, stage);
+        let at = block_at(l, n, stage, p);
+        let flag = flag_at(l, n, stage, p);
+        best = pass(
+            table,
+            flags,
+            l,
+            w,
+            edges,
+            count,
+            links,
+            steps,
+            tells,
+            gain,
+            n,
+            p,
+            at,
+            flag,
+            best,
+        );
+        stage += 1;
+    }
+    best
 }
 
 // Row n into row n + 1, place by place: each cell of row n is looked at once.
@@ -396,11 +463,12 @@ fn row(
     edges: [Edge; 32],
     count: usize,
     links: &[u8; 48],
+    steps: &[u32; 416],
     tells: &[bool; 16],
     n: usize,
     r: Report,
 ) -> Report
-    requires { ⌜ (Known l v edges count) × (Linked edges count (now links)) × (Ready (now table) l n)
+    requires { ⌜ (Known l v edges count) × (Routed edges count (now links) (now steps)) × (Ready (now table) l n)
         × (Flagged l (now table) (now flags)) ⌝ }
     ensures { λ q. ⌜ q ≡ toldPlaces l w v edges count (now (tells .entry)) n (l .places) (now (table .entry)) r ⌝ }
     ensures { λ _. ⌜ now (table .exit) ≡ placesOf l w v edges count n (l .places) (now (table .entry)) ⌝ }
@@ -420,6 +488,7 @@ fn row(
             edges,
             count,
             links,
+            steps,
             tells,
             entered,
             staying,
@@ -479,12 +548,13 @@ fn advance(
     edges: [Edge; 32],
     count: usize,
     links: &[u8; 48],
+    steps: &[u32; 416],
     ends: [bool; 16],
     low: usize,
     n: usize,
     r: Report,
 ) -> Report
-    requires { ⌜ (Known l v edges count) × (Linked edges count (now links)) × (Ready (now table) l n)
+    requires { ⌜ (Known l v edges count) × (Routed edges count (now links) (now steps)) × (Ready (now table) l n)
         × (Flagged l (now table) (now flags)) ⌝ }
     ensures { λ q. ⌜ q ≡ toldRow l w v edges count ends low n (now (table .entry)) r ⌝ }
     ensures { λ _. ⌜ now (table .exit) ≡ rowOf l w v edges count n (now (table .entry)) ⌝ }
@@ -492,7 +562,20 @@ fn advance(
 {
     wipe_row(table, flags, l, n + 1);
     let tells = tells_at(ends, low, n + 1);
-    row(table, flags, l, w, v, edges, count, links, &tells, n, r)
+    row(
+        table,
+        flags,
+        l,
+        w,
+        v,
+        edges,
+        count,
+        links,
+        steps,
+        &tells,
+        n,
+        r,
+    )
 }
 
 // All rows, the longest first.
@@ -505,10 +588,11 @@ fn rows(
     edges: [Edge; 32],
     count: usize,
     links: &[u8; 48],
+    steps: &[u32; 416],
     ends: [bool; 16],
     low: usize,
 ) -> Report
-    requires { ⌜ (Known l v edges count) × (Linked edges count (now links)) × (Rows (now table) l)
+    requires { ⌜ (Known l v edges count) × (Routed edges count (now links) (now steps)) × (Rows (now table) l)
         × (Flagged l (now table) (now flags)) ⌝ }
     ensures { λ q. ⌜ q ≡ toldOf l w v edges count ends low (now (table .entry)) ⌝ }
     ensures { λ _. ⌜ now (table .exit) ≡ rowsOf l w v edges count (l .high) (now (table .entry)) ⌝ }
@@ -527,6 +611,7 @@ fn rows(
             edges,
             count,
             links,
+            steps,
             ends,
             low,
             n,
@@ -599,7 +684,20 @@ pub fn tick(
     ensures { λ _. ⌜ Marked l (now (table .exit)) (now (flags .entry)) (now (flags .exit)) ⌝ }
 {
     let links = links_of(edges, count);
-    let told = rows(table, flags, l, w, v, edges, count, &links, ends, low);
+    let steps = steps_of(edges, count);
+    let told = rows(
+        table,
+        flags,
+        l,
+        w,
+        v,
+        edges,
+        count,
+        &links,
+        &steps,
+        ends,
+        low,
+    );
     wipe_row(table, flags, l, 0);
     begin(table, l, w, starts);
     seeds(flags, starts, l.places, 1, 0);

@@ -5,9 +5,8 @@ ghost use mathlib.Core.Path.{_≡_};
 ghost use mathlib.Core.Bool.{cond};
 ghost use Rattle.table.specs.Reports.{noReport, noted};
 
-// Whether a run was found, and the best one's score and length.
+// The best run's score and length; zeros if there is none.
 pub struct Report {
-    pub found: bool,
     pub score: i64,
     pub length: usize,
 }
@@ -16,7 +15,6 @@ pub fn no_report() -> Report
     ensures { λ r. ⌜ r ≡ noReport ⌝ }
 {
     Report {
-        found: false,
         score: 0,
         length: 0,
     }
@@ -27,10 +25,9 @@ fn note(w: Weighing, r: Report, v: i64, n: usize) -> Report
     ensures { λ q. ⌜ q ≡ noted w r v n ⌝ }
 {
     let best = r.score;
-    if r.found {
+    if 0 < r.length {
         if at_least(w, v, best) {
             Report {
-                found: true,
                 score: v,
                 length: n,
             }
@@ -39,7 +36,6 @@ fn note(w: Weighing, r: Report, v: i64, n: usize) -> Report
         }
     } else {
         Report {
-            found: true,
             score: v,
             length: n,
         }

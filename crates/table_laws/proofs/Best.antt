@@ -29,7 +29,8 @@ use Rattle.cells.specs.Index.{codeOf, clocksAt, ticked, Within, blockAt}
 use Rattle.cells.proofs.Digits.{coded, ticked-within, reset-within}
 use Rattle.cells.proofs.Blocks.{row-next, block-low, row-fits}
 use Rattle.table.specs.declared.View.{View}
-use Rattle.table.specs.Moves.{cellAt, marked, cleared, each, offered, moved, still, edgeIn, leaveOf, leavesOf, spreadOf, visitOf, visitsOf, passOf, gainAt, placeOf, placesOf, rowOf, rowsOf}
+use Rattle.steps.specs.Steps.{edgeIn}
+use Rattle.table.specs.Moves.{cellAt, marked, cleared, each, offered, moved, still, leaveOf, leavesOf, spreadOf, visitOf, visitsOf, passOf, gainAt, placeOf, placesOf, rowOf, rowsOf}
 use Rattle.table.specs.Asks.{Sized, Known, Bounded, Passing, Ready}
 use Rattle.table.proofs.Kept.{Kept, kept-trans, kept-each, turn-kept, leave-kept, visit-kept, pass-kept, place-kept, marked-kept, marked-long, row-kept}
 use Rattle.table.proofs.Steps.{sized-in, bounded-kept, pass-asks, bounded-from}

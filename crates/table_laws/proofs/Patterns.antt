@@ -5,7 +5,7 @@ use native.Mathlib.Nat.{min-comm}
 use mathlib.Core.Path.{_≡_, refl, sym, ap, subst, _∙_}
 use mathlib.Core.Bool.{Bool, true, false, not, _&&_}
 use mathlib.Core.List.{List, [], _∷_, map, zipWith}
-use borrow.Author.Tests.{ltb-true, ltb-false}
+use borrow.Author.Tests.{ltb-true, ltb-false, lt-ltb}
 use lib.Dec.{T, ltb}
 use lib.ListN.{length, getD, drop, length-drop, List·getD-eq-default}
 use lib.Seq.{getD-drop}
@@ -13,10 +13,11 @@ use Rattle.integers.proofs.Tests.{T-true}
 use Rattle.pattern.specs.declared.Kind.{Kind}
 use Rattle.pattern.specs.declared.Kind.the-variants.{Start, Plain, End, Both}
 use Rattle.pattern.specs.declared.Place.{Place}
+use Rattle.pattern.specs.declared.Guard.{Guard}
 use Rattle.pattern.specs.declared.Edge.{Edge}
 use Rattle.pattern.specs.declared.Pattern.{Pattern}
-use Rattle.pattern.specs.InUse.{placeAt, edgesOf}
-use Rattle.pattern.specs.Slots.{anything, slots}
+use Rattle.pattern.specs.InUse.{placeAt, edgesOf, guardsOf}
+use Rattle.pattern.specs.Slots.{all, anything, slots}
 use Rattle.pattern.specs.Sound.{isPlain, noPlace, guardInRange, guardKnown, guardUnused, placeUnused, edgeSound, soundOf}
 use Rattle.pattern.specs.Kinds as kinds
 use Rattle.pattern.specs.Clocks.{Clocks, later, afterResets}
@@ -32,7 +33,7 @@ use Rattle.walks.specs.Automaton.{State, entering}
 use Rattle.walks.specs.Walks.{Move, stays, takes}
 use Rattle.book.specs.Automaton.{held, heldAutomaton}
 use Rattle.book.proofs.Members.{all-member, at-member}
-use Rattle.table.specs.Moves.{edgeIn}
+use Rattle.steps.specs.Steps.{edgeIn, Fit}
 use Rattle.table_laws.specs.Patterns.{AboutPattern, KnownPattern, ClosedPattern}
 use Rattle.table_laws.proofs.States.{Cell, seen-in, in-seen, ticked-four-long, edge-in, in-edges}
 
@@ -115,6 +116,21 @@ about-pattern p h longest starts ends f =
       reset-is = λ e cs. refl;
     }
 
+-- guards about the pattern's clocks are about the four clocks
+known-four : (clocks : ℕ) → clocks ≤ 4 → (gs : List Guard) → all (λ g. guardInRange g && guardKnown clocks g) gs ≡ true → all (λ g. ltb (g .clock) 4) gs ≡ true
+unfolding guardKnown
+known-four clocks few [] h = refl
+known-four clocks few (g ∷ gs) h =
+    let a = both (guardInRange g && ltb (g .clock) clocks) (all (λ f. guardInRange f && ltb (f .clock) clocks) gs) h in
+    let b = both (guardInRange g) (ltb (g .clock) clocks) (a .0) in
+    let low = ltb-true (g .clock) clocks (b .1) in
+    rw (lt-ltb (g .clock) 4 (omega arith)) (known-four clocks few gs (a .1))
+
+edge-fits : (clocks places : ℕ) (e : Edge) → clocks ≤ 4 → edgeSound clocks places e ≡ true → Fit e
+edge-fits clocks places e few h =
+    let q = edge-parts clocks places e h in
+    record { guards = q .guards .long; resets = q .resets .long; clocks = known-four clocks few (guardsOf e) (q .guards .front) }
+
 pub known-pattern : KnownPattern
 unfolding layoutOf
 known-pattern p h longest short v entered staying =
@@ -125,6 +141,7 @@ known-pattern p h longest short v entered staying =
       edges = parts p h .edges .few;
       froms = λ i low. edge-parts (p .clocks) (p .placecount) (edgeIn (p .edges) i) (edge-sound p h i low) .fromPlace;
       tos = λ i low. edge-parts (p .clocks) (p .placecount) (edgeIn (p .edges) i) (edge-sound p h i low) .toPlace;
+      fits = λ i low. edge-fits (p .clocks) (p .placecount) (edgeIn (p .edges) i) (parts p h .fewClocks) (edge-sound p h i low);
     }
 
 -- ---- no move leaves the cells

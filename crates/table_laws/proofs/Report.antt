@@ -36,7 +36,8 @@ use Rattle.walks.proofs.Offers.{Offered}
 use Rattle.walks.proofs.Entries.{Into, ending-in, ending-out, offers-best}
 use Rattle.table.specs.declared.View.{View}
 use Rattle.table.specs.declared.report.Report.{Report}
-use Rattle.table.specs.Moves.{cellAt, each, edgeIn, gainAt}
+use Rattle.steps.specs.Steps.{edgeIn}
+use Rattle.table.specs.Moves.{cellAt, each, gainAt}
 use Rattle.table.specs.Reports.{noReport, noted, toldMove, toldLeave, toldVisit, toldVisits, toldPass, toldPlace, toldPlaces, tellsAt, toldRow, toldRows, toldOf}
 use Rattle.table.specs.Asks.{Sized, Known, Ticking, Bounded, Ready}
 use Rattle.table.proofs.Steps.{pass-asks, bounded-from, whole-rows}
@@ -122,19 +123,23 @@ module _ (w : Weighing) where
       let f = z .1 in
       no-worse v n q (subst (λ (x : ℤ). T (weightingOf w .order .atLeast v x)) (sym (z .0)) (weightingOf w .order .self v)) (omega arith)
 
-  notes-one : (r : Report) (v : ℤ) (n : ℕ) → Notes w r (noted w r v n) n (Here v n)
+  notes-one : (r : Report) (v : ℤ) (n : ℕ) → 0 < n → Notes w r (noted w r v n) n (Here v n)
   unfolding noted
-  notes-one r v n P low h = by (r .found) refl (weightingOf w .order .atLeast v (r .score)) refl
+  notes-one r v n some-n P low h = by (ltb 0 (r .length)) refl (weightingOf w .order .atLeast v (r .score)) refl
     where
       new : Report
-      new = record { found = true; score = v; length = n }
+      new = record { score = v; length = n }
 
-      by : (b : Bool) → r .found ≡ b → (c : Bool) → weightingOf w .order .atLeast v (r .score) ≡ c → IsBest (shortest (weightingOf w .order)) (λ q. P q ⊎ Here v n q) (resultOf (cond b (cond c new r) new))
+      told : ltb 0 n ≡ true
+      told = lt-ltb 0 n some-n
+
+      by : (b : Bool) → ltb 0 (r .length) ≡ b → (c : Bool) → weightingOf w .order .atLeast v (r .score) ≡ c → IsBest (shortest (weightingOf w .order)) (λ q. P q ⊎ Here v n q) (resultOf (cond b (cond c new r) new))
       by false f c g =
           let nothing : IsBest (shortest (weightingOf w .order)) P none = rw f at h in
-          (inr (refl, refl), λ q. ⊎-elim (λ p. absurd (nothing q p)) (here-same v n q))
+          rw told (inr (refl, refl), λ q. ⊎-elim (λ p. absurd (nothing q p)) (here-same v n q))
       by true f true g =
-          let best : IsBest (shortest (weightingOf w .order)) P (some (r .score, r .length)) = rw f at h in (
+          let best : IsBest (shortest (weightingOf w .order)) P (some (r .score, r .length)) = rw f at h in
+          rw told (
             inr (refl, refl),
             λ q. ⊎-elim
                 (λ p. no-worse v n q (weightingOf w .order .through v (r .score) (q .0) (true-T _ g) (shortest-out (weightingOf w .order) (r .score, r .length) q (best .1 q p) .0)) (low q p))
@@ -168,7 +173,7 @@ leave-notes w tells n p cs x e r =
     (λ q z. let b = both (guardsHold cs e) (getD tells (e .to) false) (z .1 .0) in record { from = eqb-true (e .from) p (z .0); goes = b .0; ends = b .1; here = z .1 .1 })
     (λ q z. (eq-eqb (e .from) p (z .from), (rw (z .goes, z .ends), z .here)))
     (notes-if w (eqb (e .from) p) r (toldMove w tells n cs x e r) (n + 1) (λ q. (guardsHold cs e && getD tells (e .to) false ≡ true) × Here x (n + 1) q)
-    (λ a. notes-if w (guardsHold cs e && getD tells (e .to) false) r (noted w r x (n + 1)) (n + 1) (Here x (n + 1)) (λ b. notes-one w r x (n + 1))))
+    (λ a. notes-if w (guardsHold cs e && getD tells (e .to) false) r (noted w r x (n + 1)) (n + 1) (Here x (n + 1)) (λ b. notes-one w r x (n + 1) (omega arith))))
 
 -- cell k of the block at `at`, of length n and place p, goes along an edge at whose end a run may end
 record Leaving (l : Layout) (w : Weighing) (es : List Edge) (count : ℕ) (tells : List Bool) (g : ℤ) (n p at : ℕ) (t : List ℤ) (k : ℕ) (q : ℤ × ℕ) : Type 0 where

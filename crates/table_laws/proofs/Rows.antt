@@ -24,7 +24,8 @@ use Rattle.cells.specs.Layout.{Laid, cellsIn}
 use Rattle.cells.specs.Index.{blockAt}
 use Rattle.cells.proofs.Blocks.{row-next, row-first, in-table}
 use Rattle.table.specs.declared.View.{View}
-use Rattle.table.specs.Moves.{cellAt, cleared, gainAt, still, edgeIn, rowsOf, startsOf, begun, tickOf, openOf}
+use Rattle.steps.specs.Steps.{edgeIn}
+use Rattle.table.specs.Moves.{cellAt, cleared, gainAt, still, rowsOf, startsOf, begun, tickOf, openOf}
 use Rattle.table.specs.Asks.{Sized, Known, Whole}
 use Rattle.table.proofs.Kept.{marked-long, rows-long, starts-long}
 use Rattle.table.proofs.Steps.{sized-more, first-fits, whole-rows}

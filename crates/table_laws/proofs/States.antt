@@ -19,7 +19,8 @@ use lib.IntN.{ℤ}
 use Rattle.weighting.specs.Cell.{heldIn}
 use Rattle.walks.specs.Automaton.{State}
 use Rattle.walks.specs.Tables.{Table}
-use Rattle.table.specs.Moves.{cellAt, still, edgeIn}
+use Rattle.steps.specs.Steps.{edgeIn}
+use Rattle.table.specs.Moves.{cellAt, still}
 use Rattle.table_laws.specs.Offers.{stageOf}
 use Rattle.table_laws.specs.Meaning.{stateAt, indexAt, upTo, statesOf, tableOf, Seen}
 use Rattle.table_laws.specs.Claims.{TableIsSeen}

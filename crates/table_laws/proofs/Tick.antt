@@ -36,7 +36,8 @@ use Rattle.walks.proofs.Moves.{move-len}
 use Rattle.walks.proofs.Offers.{Offered}
 use Rattle.walks.proofs.TableBest.{next-only}
 use Rattle.table.specs.declared.View.{View}
-use Rattle.table.specs.Moves.{cellAt, cleared, gainAt, still, edgeIn, rowsOf, begun, tickOf, openOf}
+use Rattle.steps.specs.Steps.{edgeIn}
+use Rattle.table.specs.Moves.{cellAt, cleared, gainAt, still, rowsOf, begun, tickOf, openOf}
 use Rattle.table.specs.Asks.{Known, Ticking}
 use Rattle.table.proofs.Kept.{marked-long, rows-long}
 use Rattle.table.proofs.Steps.{whole-rows}

@@ -17,7 +17,8 @@ use Rattle.walks.specs.Automaton.{Automaton, TickView, State}
 use Rattle.walks.specs.Tables.{Table}
 use Rattle.table.specs.declared.View.{View}
 use Rattle.table.specs.declared.report.Report.{Report}
-use Rattle.table.specs.Moves.{cellAt, gainAt, edgeIn}
+use Rattle.steps.specs.Steps.{edgeIn}
+use Rattle.table.specs.Moves.{cellAt, gainAt}
 use Rattle.table_laws.specs.Offers.{stageOf, gainsOf}
 
 -- The state that cell i of a layout is about; `monitor/specs/Cells` has it for a pattern's layout.
@@ -46,9 +47,9 @@ tableOf l t s = heldIn (cellAt t (indexAt l s))
 abbrev pub viewOf : View → TickView ℤ
 viewOf v f p = heldIn (gainAt (gainsOf v f) p)
 
--- What a report says: nothing, or a score and a length.
+-- What a report says: a score and a length, or nothing if the length is 0.
 abbrev pub resultOf : Report → Option (ℤ × ℕ)
-resultOf r = cond (r .found) (some (r .score, r .length)) none
+resultOf r = cond (ltb 0 (r .length)) (some (r .score, r .length)) none
 
 -- The automaton that a table is about: its places, its edges in use, and clocks that are held after each tick.
 pub record About (A : Automaton Clocks Edge) (l : Layout) (es : List Edge) (count : ℕ) (starts ends : List Bool) : Type 0 where

@@ -14,7 +14,8 @@ use Rattle.pattern.specs.Clocks.{Clocks, guardsHold, afterResets}
 use Rattle.cells.specs.declared.Layout.{Layout}
 use Rattle.cells.specs.Index.{codeOf, clocksAt, ticked, blockAt}
 use Rattle.table.specs.declared.View.{View}
-use Rattle.table.specs.Moves.{cellAt, gainAt, still, edgeIn}
+use Rattle.steps.specs.Steps.{edgeIn}
+use Rattle.table.specs.Moves.{cellAt, gainAt, still}
 
 -- Where the clocks of a cell go along the edge after one tick.
 abbrev pub goesTo : Layout → Edge → Clocks → ℕ

@@ -117,14 +117,16 @@ module _ {W C E : Type 0} (𝓦 : Weighting W) (A : Automaton C E) (Q : Same C) 
       → (T₀ : Table W C) → ((s : State C) (w : W) → List·Memᴰ s all → T₀ s ≡ some w → P (s .len) w)
       → (n : ℕ) (s : State C) (w : W) → List·Memᴰ s all → tableAt 𝓦 A Q high all 𝓥 T₀ n s ≡ some w → P (s .len) w
 
-  -- 6. After high + 1 ticks that are all alike, from any table, neither the table nor its report changes any more.
+  -- 6. After high + 1 ticks of which all but the first are alike, from any table, neither the table nor its report changes any
+  -- more while further ones are like them.
   abbrev pub Still : Type 0
   Still =
-      (g : TickView W) (T₀ : Table W C) (n : ℕ) (s : State C) → s .len ≤ high
-      → tableAt 𝓦 A Q high all (λ _. g) T₀ (suc high + n) s ≡ tableAt 𝓦 A Q high all (λ _. g) T₀ (suc high) s
+      (𝓥 : View W) (g : TickView W) → ((t : ℕ) → 𝓥 (suc t) ≡ g) → (T₀ : Table W C) (n : ℕ) (s : State C) → s .len ≤ high
+      → tableAt 𝓦 A Q high all 𝓥 T₀ (suc high + n) s ≡ tableAt 𝓦 A Q high all 𝓥 T₀ (suc high) s
 
   abbrev pub StillReports : Type 0
   StillReports =
-      ((s : State C) → List·Memᴰ s all → s .len ≤ high) → (low : ℕ) (g : TickView W) (T₀ : Table W C) (n : ℕ)
-      → report 𝓦 A low all (tableAt 𝓦 A Q high all (λ _. g) T₀ (suc high + n))
-      ≡ report 𝓦 A low all (tableAt 𝓦 A Q high all (λ _. g) T₀ (suc high))
+      ((s : State C) → List·Memᴰ s all → s .len ≤ high) → (low : ℕ)
+      → (𝓥 : View W) (g : TickView W) → ((t : ℕ) → 𝓥 (suc t) ≡ g) → (T₀ : Table W C) (n : ℕ)
+      → report 𝓦 A low all (tableAt 𝓦 A Q high all 𝓥 T₀ (suc high + n))
+      ≡ report 𝓦 A low all (tableAt 𝓦 A Q high all 𝓥 T₀ (suc high))

@@ -52,7 +52,7 @@ returns c =
     let b = c .before .before .before .before .tick in
     let r = b .result in
     let a = c .before .before .before .before .before .before .before .before .args in
-    let score : toZ w64 (ofZ w64 (r .score)) ≡ r .score = toZ-ofZ (record { sfits = b .ok .1 .1 .1 .0 .1 }) in
+    let score : toZ w64 (ofZ w64 (r .score)) ≡ r .score = toZ-ofZ (record { sfits = b .ok .1 .1 .0 .1 }) in
     (b .ensures .1 .0, (ap (set (a .scores .now) (a .i)) (score ∙ ap (λ (x : Report). x .score) (b .ensures .0)), (ap (set (a .lengths .now) (a .i)) (ap (λ (x : Report). x .length) (b .ensures .0)), b .ensures .1 .1)))
 
 pub tell-spec : {M : Type 1} → statement M

@@ -1,14 +1,26 @@
--- `leave` turns into the block that the edge leads to, and notes what a run may end with.
-use Prim.Native.Nat.{_+_}
+-- `leave` turns into the block that the step leads to, and notes what a run may end with.
+use Prim.Native.Nat.{ℕ, _+_}
 use native.Mathlib.Omega.{arith}
-use mathlib.Core.Path.{refl}
+use mathlib.Core.Path.{_≡_, refl, ap, _∙_}
+use mathlib.Core.Bool.{false}
+use lib.ListN.{length, getD}
 use mir.Facts.{toZ-ofZ}
-use Rattle.table.proofs.Steps.{next-in}
+use Rattle.pattern.specs.Clocks.{afterResets}
+use Rattle.cells.specs.Index.{codeOf}
+use Rattle.cells.proofs.Digits.{reset-within}
+use borrow.Author.Needs.{needs}
+use Rattle.table.proofs.Steps.{small-clocks, next-in}
 use Rattle.table.proofs.Told.{told-move}
 use Rattle.table.proofs.Flags.{flag-in, flag-of, block-lt, flagged-moved}
-use borrow.Author.Needs.{needs}
 use Rattle.table.proofs.leave.Statement.{statement}
 use Rattle.table.proofs.leave.Tie as tie
+
+-- an array has as many elements as its type says
+four : (c : tie.Start) → length (c .args .clocks) ≡ 4
+four c = c .good .1 .1 .1 .1 .1 .1 .1 .1 .1 .0 .1 .0 .1
+
+leads-to-requires : tie.Need-leads-to-requires
+leads-to-requires c κs = search needs
 
 cast-end : tie.Need-cast-end
 cast-end c = search needs
@@ -25,15 +37,32 @@ add-flag-at c = search needs
 flag-at-requires : tie.Need-flag-at-requires
 flag-at-requires c κs = search needs
 
+goes-requires : tie.Need-goes-requires
+goes-requires c κs = search needs
+
+after-requires : tie.Need-after-requires
+after-requires c κs = search needs
+
+code-requires : tie.Need-code-requires
+code-requires c κs = let st = c .before .before .before .before .before in
+    let a = st .args in
+    let r = c .after .ensures ∙ st .pre .4 .after (a .clocks) (four st) in
+    (st .pre .0 .laid, rw r (reset-within (a .l .radices) (a .e) (a .clocks) (st .pre .0 .within)))
+
 turn-requires : tie.Need-turn-requires
-turn-requires c κs = let st = c .before .before .before .before .before in
+turn-requires c κs = let st = c .before .before .before .before .before .before .before .before in
+    let a = st .args in
     let m = st .pre .0 in
     let low = m .low in
-    let f = flag-in (st .args .l) (st .args .n + 1) 0 (st .args .e .to) (record { laid = m .laid; low = omega arith; stages = omega arith; place = st .pre .1 }) in
-    let z = block-lt (st .args .l) _ (m .laid) f in
-    let e = c .before .before .flag-at .ensures in
+    let end = c .before .before .before .before .before .before .before .leads-to .ensures ∙ st .pre .4 .leads in
+    let to = rw end at (c .before .before .before .before .before .before .block-at .ensures) in
+    let flag = rw end at (c .before .before .before .before .before .flag-at .ensures) in
+    let can = c .before .before .before .before .goes .ensures ∙ st .pre .4 .goes (a .clocks) (small-clocks (a .l) (a .clocks) (m .laid) (m .within)) in
+    let reset = c .before .before .before .after .ensures ∙ st .pre .4 .after (a .clocks) (four st) in
+    let f = flag-in (a .l) (a .n + 1) 0 (a .e .to) (record { laid = m .laid; low = omega arith; stages = omega arith; place = st .pre .1 }) in
+    let z = block-lt (a .l) _ (m .laid) f in
     let y = st .pre .2 .long in
-    (m .laid, m .within, next-in m (c .before .before .before .block-at .ensures) (omega arith) (st .pre .1), omega arith)
+    (m .laid, m .within, next-in m to (omega arith) (st .pre .1), omega arith, can, rw reset at (c .before .before .code .ensures))
 
 element-copy-out-told : tie.Need-element-copy-out-told
 element-copy-out-told c = search needs
@@ -51,27 +80,33 @@ same-length-2 : tie.Need-same-length-2
 same-length-2 c = search needs
 
 returns : tie.Need-returns
-returns c = let st = c .before .before .before .before .before .before .before .before .before .before in
+returns c = let st = c .before .before .before .before .before .before .before .before .before .before .before .before .before in
     let a = st .args in
     let m = st .pre .0 in
     let low = m .low in
     let q = toZ-ofZ (st .fits .worth) in
-    let to = c .before .before .before .before .before .before .before .before .block-at .ensures in
-    let flag = c .before .before .before .before .before .before .before .flag-at .ensures in
+    let end = c .before .before .before .before .before .before .before .before .before .before .before .before .leads-to .ensures ∙ st .pre .4 .leads in
+    let to = rw end at (c .before .before .before .before .before .before .before .before .before .before .before .block-at .ensures) in
+    let flag = rw end at (c .before .before .before .before .before .before .before .before .before .before .flag-at .ensures) in
+    let can = c .before .before .before .before .before .before .before .before .before .goes .ensures ∙ st .pre .4 .goes (a .clocks) (small-clocks (a .l) (a .clocks) (m .laid) (m .within)) in
     let t = c .before .before .before .before .turn .ensures in
-    let e = rw (q, to) at (t .1 .1) in
-    let f = rw flag at (t .1 .0) in
-    (told-move _ _ _ _ _ _ _ _ _ _ (t .0) refl (rw q at (c .note-if .ensures)), (e, flagged-moved (a .l) (m .laid) (a .w) (a .e) _ _ (a .clocks) (a .worth) (a .table .now) (a .flags .now) _ _ (flag-of (a .l) (a .n + 1) 0 (a .e .to) (record { laid = m .laid; low = omega arith; stages = omega arith; place = st .pre .1 })) (m .within) (st .pre .2) e f))
+    let e = rw (q, to) at (t .1) in
+    let f = rw flag at (t .0) in
+    (told-move _ _ _ _ _ _ _ _ _ _ can (ap (λ (x : ℕ). getD (a .tells .now) x false) end) (rw q at (c .note-if .ensures)), (e, flagged-moved (a .l) (m .laid) (a .w) (a .e) _ _ (a .clocks) (a .worth) (a .table .now) (a .flags .now) _ _ (flag-of (a .l) (a .n + 1) 0 (a .e .to) (record { laid = m .laid; low = omega arith; stages = omega arith; place = st .pre .1 })) (m .within) (st .pre .2) e f))
 
 pub leave-spec : {M : Type 1} → statement M
 leave-spec =
     tie.close
     (tie.spec
+    leads-to-requires
     cast-end
     add-block-at
     block-at-requires
     add-flag-at
     flag-at-requires
+    goes-requires
+    after-requires
+    code-requires
     turn-requires
     element-copy-out-told
     add-note-if

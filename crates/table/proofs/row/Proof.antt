@@ -19,11 +19,11 @@ use Rattle.table.proofs.row.Statement.{statement}
 use Rattle.table.proofs.row.Tie as tie
 
 abbrev Inv-loop : tie.InvT-loop
-Inv-loop table₀ flags₀ l w edges count links tells n v m best₀ p₀ table flags best p =
+Inv-loop table₀ flags₀ l w edges count links steps tells n v m best₀ p₀ table flags best p =
     (p ≤ m) × ((Kept ((n + 1) * l .row) table₀ table) × ((table ≡ placesOf l w v edges count n p table₀) × ((best ≡ toldPlaces l w v edges count tells n p table₀ best₀) × (Marked l table flags₀ flags))))
 
 abbrev μ-loop : tie.MeasureT-loop
-μ-loop table₀ flags₀ l w edges count links tells n v m best₀ p₀ table flags best p = m - p
+μ-loop table₀ flags₀ l w edges count links steps tells n v m best₀ p₀ table flags best p = m - p
 
 loop-holds : tie.Need-loop-holds Inv-loop μ-loop
 unfolding each

@@ -15,11 +15,11 @@ use Rattle.table.proofs.rows.Statement.{statement}
 use Rattle.table.proofs.rows.Tie as tie
 
 abbrev Inv-loop : tie.InvT-loop
-Inv-loop table₀ flags₀ l w v edges count links ends low best₀ n₀ table flags best n =
+Inv-loop table₀ flags₀ l w v edges count links steps ends low best₀ n₀ table flags best n =
     (n ≤ l .high) × ((length table ≡ length table₀) × ((rowsOf l w v edges count n table ≡ rowsOf l w v edges count (l .high) table₀) × ((Bounded table 0 (n * l .row)) × ((toldRows l w v edges count ends low n table best ≡ toldRows l w v edges count ends low (l .high) table₀ best₀) × (Marked l table flags₀ flags)))))
 
 abbrev μ-loop : tie.MeasureT-loop
-μ-loop table₀ flags₀ l w v edges count links ends low best₀ n₀ table flags best n = n
+μ-loop table₀ flags₀ l w v edges count links steps ends low best₀ n₀ table flags best n = n
 
 no-report-requires : tie.Need-no-report-requires Inv-loop μ-loop
 no-report-requires c κs = search needs

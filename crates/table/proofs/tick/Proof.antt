@@ -15,22 +15,29 @@ use Rattle.table.proofs.tick.Tie as tie
 links-of-requires : tie.Need-links-of-requires
 links-of-requires c κs = known-sourced (c .pre .0 .known)
 
+steps-of-requires : tie.Need-steps-of-requires
+steps-of-requires c κs = (c .before .pre .0 .known .edges, c .before .pre .0 .known .fits)
+
 rows-requires : tie.Need-rows-requires
-rows-requires c κs = let st = c .before .before .before .before in
-    (st .pre .0 .known, c .before .before .before .links-of .ensures, whole-rows (st .args .table .now) (st .args .l) (st .pre .0 .known .laid) (st .pre .0 .whole), st .pre .1)
+rows-requires c κs = let st = c .before .before .before .before .before .before in
+    (st .pre .0 .known, record { linked = c .before .before .before .before .before .links-of .ensures; made = c .before .before .before .before .steps-of .ensures }, whole-rows (st .args .table .now) (st .args .l) (st .pre .0 .known .laid) (st .pre .0 .whole), st .pre .1)
 
 wipe-row-requires : tie.Need-wipe-row-requires
-wipe-row-requires c κs = search needs
+wipe-row-requires c κs = let st = c .before .before .before .before .before .before .before .before .before .before .before in
+    let r = c .before .before .before .before .rows in
+    let i = st .pre .0 .whole .inside in
+    let j = r .kept .0 in
+    (st .pre .0 .known .laid, omega arith, r .ensures .1 .1 .flagged, omega arith)
 
 begin-requires : tie.Need-begin-requires
-begin-requires c κs = let st = c .before .before .before .before .before .before .before .before .before .before .before .before .before in
+begin-requires c κs = let st = c .before .before .before .before .before .before .before .before .before .before .before .before .before .before .before in
     let i = st .pre .0 .whole .inside in
     let j = c .before .before .before .before .before .before .before .before .rows .kept .0 in
     let k = c .before .before .before .wipe-row .kept .0 in
     record { laid = st .pre .0 .known .laid; inside = omega arith }
 
 seeds-requires : tie.Need-seeds-requires
-seeds-requires c κs = let st = c .before .before .before .before .before .before .before .before .before .before .before .before .before .before .before .before in
+seeds-requires c κs = let st = c .before .before .before .before .before .before .before .before .before .before .before .before .before .before .before .before .before .before in
     let l = st .args .l in
     let laid = st .pre .0 .known .laid in
     let f = c .before .before .before .before .before .before .wipe-row .ensures .1 .flagged .long in
@@ -44,7 +51,7 @@ same-length-2 : tie.Need-same-length-2
 same-length-2 c = search needs
 
 returns : tie.Need-returns
-returns c = let st = c .before .before .before .before .before .before .before .before .before .before .before .before .before .before .before .before .before .before in
+returns c = let st = c .before .before .before .before .before .before .before .before .before .before .before .before .before .before .before .before .before .before .before .before in
     let a = st .args in
     let r = c .before .before .before .before .before .before .before .before .before .before .before .before .before .rows .ensures in
     let w = c .before .before .before .before .before .before .before .before .wipe-row .ensures in
@@ -60,6 +67,7 @@ tick-spec =
     tie.close
     (tie.spec
     links-of-requires
+    steps-of-requires
     rows-requires
     wipe-row-requires
     begin-requires

@@ -1,0 +1,2 @@
+-- What the numbers of an edge mean.
+pub mod Spans

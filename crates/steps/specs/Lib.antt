@@ -1,0 +1,2 @@
+-- The edges as numbers.
+pub mod Steps
