@@ -1,14 +1,22 @@
 /* measure.c: runs the library and the plain monitor on the same patterns and records, compares what they answer and what
  * they leave, and prints how long each took, as lines of words parted by tabs for report.py. bench/run calls it:
  *
- *     measure times              records, growth, tables of different occupation, pieces of different length
+ *     measure records            whole records, and how their cost grows with their length
+ *     measure growth             other growth: window, ceiling, clocks, denser samples
+ *     measure fills              one tick from tables of different occupation
+ *     measure large              a table of 100,000 cells
+ *     measure pieces             pieces of different length
+ *     measure writing            writing the reports of the longest piece, nothing else
+ *     measure bests              the best of a record
+ *     measure readings           reading the pattern's text
  *     measure second SCORER DIR  the second scorer, on cases that it can follow; DIR is for its files
  *     measure memory CASE MONITOR ENTRIES
  *     measure stack
  *     measure differs N          spoils an answer of the plain monitor, 1 to 5; the comparison must find it
- *     measure refusals           calls that all monitors must refuse alike
+ *     measure refusals           feeds with one cause or two that all monitors must refuse alike
  *
- * Times are processor time, the least of several rounds. A difference between two monitors ends the program with status 1. */
+ * Times are processor time, the least of several rounds, in which the monitors take turns. A difference between two
+ * monitors ends the program with status 1. */
 #define _GNU_SOURCE
 #include <inttypes.h>
 #include <pthread.h>
@@ -183,80 +191,166 @@ static double occupied(const struct pattern *p, const int64_t *table)
 
 /* ---- timing */
 
-#define ROUNDS 1000 /* of a single call, at most */
+#define ROUNDS 1000 /* at most */
+#define PART 200    /* entries of a record that a monitor is fed at a time */
 
-/* A line: kind, case, what is varied, entries, ticks, cells of a table, occupied cells of a hundred, ends with a run, and
- * the seconds of each monitor. */
+/* The least time of each monitor, and what the library's rounds were like. */
+struct timing {
+    double least[MONITORS];
+    double greatest; /* of the library */
+    double spent;    /* by all rounds of all monitors */
+    int rounds;
+};
+
+static struct timing new_timing(void)
+{
+    struct timing t = {{1e9, 1e9, 1e9}, 0, 0, 0};
+    return t;
+}
+
+static void count_time(struct timing *t, int monitor, double took)
+{
+    t->spent += took;
+    if (took < t->least[monitor])
+        t->least[monitor] = took;
+    if (monitor == LIBRARY) {
+        t->rounds++;
+        if (took > t->greatest)
+            t->greatest = took;
+    }
+}
+
+/* Is another round due: as many as fit `budget` seconds, seven if they fit three times that, three at least, and two if a
+ * round takes over eight seconds. */
+static int goes_on(const struct timing *t, double budget)
+{
+    return t->rounds < 2 || (t->rounds < 3 && t->spent < 16) || (t->rounds < 7 && t->spent < 3 * budget) ||
+           (t->rounds < ROUNDS && t->spent < budget);
+}
+
+/* A line: kind, case, what is varied, entries, ticks, cells of a table, occupied cells of a hundred, ends with a run, the
+ * seconds of each monitor, the library's rounds, and the greatest of them over the least. */
 static void print_times(const char *kind, const char *name, size_t varied, size_t entries, size_t ticks,
-                        const struct pattern *p, double full, const struct lent *l, const double *seconds)
+                        const struct pattern *p, double full, const struct lent *l, const struct timing *t)
 {
     size_t ends = 0;
 
-    for (size_t i = 0; i < l->reports; i++)
+    for (size_t i = 0; i < ticks; i++)
         ends += l->lengths[i] != 0;
     printf("%s\t%s\t%zu\t%zu\t%zu\t%zu\t%.1f\t%zu", kind, name, varied, entries, ticks, p->cells, full, ends);
     for (int m = 0; m < MONITORS; m++)
-        printf("\t%.9f", seconds[m]);
-    printf("\n");
+        printf("\t%.9f", t->least[m]);
+    printf("\t%d\t%.3f\n", t->rounds, t->greatest / t->least[LIBRARY]);
     fflush(stdout);
 }
 
-/* Whole records. Rounds are repeated until `budget` seconds are spent: five at most, and two at least unless the first
- * took over eight seconds. */
-static void time_record(const char *kind, const char *name, size_t varied, const char *text, const struct record *r,
-                        double budget)
+/* A round of a whole record. The monitors take turns, part by part, so that a change of the machine's clock meets all. */
+static void record_round(struct timing *t, const char *name, const struct pattern *p, struct lent *lent,
+                         const struct record *r)
+{
+    uint32_t answers[MONITORS];
+    double took[MONITORS] = {0};
+    size_t at = 0;
+
+    for (size_t from = 0; from < r->entries; from += PART) {
+        size_t to = from + PART < r->entries ? from + PART : r->entries, next = at;
+
+        for (int m = 0; m < MONITORS; m++) {
+            double start = now();
+
+            if (from == 0)
+                answers[m] = open_by(m, p, &lent[m]);
+            next = at;
+            for (size_t i = from; i < to && answers[m] == CALL_DONE; i++) {
+                answers[m] = feed_by(m, p, &lent[m], r->durations[i], r->values + i * r->channels, next);
+                next += r->durations[i];
+            }
+            took[m] += now() - start;
+        }
+        at = next;
+    }
+    for (int m = 0; m < MONITORS; m++) {
+        count_time(t, m, took[m]);
+        compare(name, m, p, &lent[m], &lent[LIBRARY], answers[m], answers[LIBRARY]);
+    }
+}
+
+static void time_record(const char *kind, const char *name, size_t varied, const char *text, const struct record *r)
 {
     struct pattern *p = new_pattern(text);
+    struct timing t = new_timing();
     struct lent lent[MONITORS];
-    double seconds[MONITORS] = {1e9, 1e9, 1e9}, spent = 0;
-    uint32_t answers[MONITORS];
 
     for (int m = 0; m < MONITORS; m++)
         lent[m] = new_lent(p, r->ticks);
-    for (int round = 0; spent < budget ? round < 5 : round < 2 && spent < 8; round++)
-        for (int m = 0; m < MONITORS; m++) {
-            double start = now(), took;
-
-            answers[m] = run_by(m, p, &lent[m], r);
-            took = now() - start;
-            spent += took;
-            if (took < seconds[m])
-                seconds[m] = took;
-            compare(name, m, p, &lent[m], &lent[LIBRARY], answers[m], answers[LIBRARY]);
-        }
-    print_times(kind, name, varied, r->entries, r->ticks, p, occupied(p, lent[LIBRARY].first), &lent[LIBRARY], seconds);
+    while (goes_on(&t, 1))
+        record_round(&t, name, p, lent, r);
+    print_times(kind, name, varied, r->entries, r->ticks, p, occupied(p, lent[LIBRARY].first), &lent[LIBRARY], &t);
     for (int m = 0; m < MONITORS; m++)
         free_lent(&lent[m]);
     free(p);
 }
 
-/* One feed from the state and the table that `from` has: as many rounds as fit in `budget` seconds, and two at least
- * unless the first took over eight. */
+/* Parts of a record from its beginning on, the shorter ones more often, all of them in turn in each of three rounds: what
+ * is asked is how their times compare. */
+static void time_lengths(const char *name, size_t high, const char *text, const struct record *r)
+{
+    static const size_t entries[] = {600, 2000, 6000, 20000, 60000};
+    static const int times[] = {10, 5, 2, 1, 1};
+    enum { LENGTHS = sizeof entries / sizeof *entries };
+    struct pattern *p = new_pattern(text);
+    struct timing t[LENGTHS];
+    struct lent lent[MONITORS];
+    struct record part = *r;
+
+    for (int i = 0; i < LENGTHS; i++)
+        t[i] = new_timing();
+    for (int m = 0; m < MONITORS; m++)
+        lent[m] = new_lent(p, r->ticks);
+    for (int round = 0; round < 3; round++)
+        for (int i = 0; i < LENGTHS; i++)
+            for (int n = 0; n < times[i]; n++) {
+                part.entries = part.ticks = entries[i];
+                record_round(&t[i], name, p, lent, &part);
+            }
+    for (int i = 0; i < LENGTHS; i++) /* the whole record comes last, so the table is that of its end */
+        print_times(entries[i] == r->entries ? "record" : "length", name, entries[i] == r->entries ? high : entries[i],
+                    entries[i], entries[i], p, occupied(p, lent[LIBRARY].first), &lent[LIBRARY], &t[i]);
+    for (int m = 0; m < MONITORS; m++)
+        free_lent(&lent[m]);
+    free(p);
+}
+
+/* One feed from the state and the table that `from` has. Where the plain monitors take over two seconds they take them
+ * once: the rounds that follow are the library's. */
 static void time_call(const char *kind, const char *name, size_t varied, const struct pattern *p, const struct lent *from,
                       uint32_t duration, const int32_t *values, double budget)
 {
     struct lent lent[MONITORS];
-    double seconds[MONITORS] = {1e9, 1e9, 1e9}, spent = 0;
+    struct timing t = new_timing();
     uint32_t answers[MONITORS];
+    int monitors = MONITORS;
 
     for (int m = 0; m < MONITORS; m++)
         lent[m] = new_lent(p, duration);
-    for (int round = 0; spent < budget ? round < ROUNDS : round < 2 && spent < 8; round++)
-        for (int m = 0; m < MONITORS; m++) {
-            double start, took;
+    while (goes_on(&t, budget)) {
+        for (int m = 0; m < monitors; m++) {
+            double start;
 
             memcpy(lent[m].state, from->state, sizeof from->state);
             memcpy(lent[m].first, from->first, p->cells * sizeof *from->first);
             memcpy(lent[m].second, from->second, p->cells * sizeof *from->second);
             start = now();
             answers[m] = feed_by(m, p, &lent[m], duration, values, 0);
-            took = now() - start;
-            spent += took;
-            if (took < seconds[m])
-                seconds[m] = took;
+            count_time(&t, m, now() - start);
             compare(name, m, p, &lent[m], &lent[LIBRARY], answers[m], answers[LIBRARY]);
         }
-    print_times(kind, name, varied, 1, duration, p, occupied(p, from->first), &lent[LIBRARY], seconds);
+        if (t.rounds == 1 && t.spent > 2) {
+            monitors = 1;
+            t.spent = 0;
+        }
+    }
+    print_times(kind, name, varied, 1, duration, p, occupied(p, from->first), &lent[LIBRARY], &t);
     for (int m = 0; m < MONITORS; m++)
         free_lent(&lent[m]);
 }
@@ -274,10 +368,9 @@ static size_t window_of(const char *text)
 }
 
 /* After the source's experiments, both weightings each, and the four clocks of examples/gearbox. */
-static void experiments(void)
+static void records(void)
 {
     static const char *const weightings[] = {"margin", "sum"};
-    static const size_t parts[] = {600, 2000, 6000, 20000};
     struct record cruise = cruise_record(ENTRIES, 10), swing = swing_record(ENTRIES, 10), gears = gearbox_record(ENTRIES);
     struct record part = cruise;
 
@@ -286,20 +379,18 @@ static void experiments(void)
         char name[64];
 
         snprintf(name, sizeof name, "OVERSHOOT, %s", weighting);
-        time_record("record", name, 30, overshoot(weighting, 30, 15), &cruise, 6);
+        if (w == 0)
+            time_lengths(name, 30, overshoot(weighting, 30, 15), &cruise);
+        else
+            time_record("record", name, 30, overshoot(weighting, 30, 15), &cruise);
         snprintf(name, sizeof name, "RINGING, %s", weighting);
-        time_record("record", name, 8, ringing(weighting, 8, 8, 4), &swing, 6);
+        time_record("record", name, 8, ringing(weighting, 8, 8, 4), &swing);
         snprintf(name, sizeof name, "OVERSHOOT unbounded, %s", weighting);
-        time_record("record", name, 100, unbounded(weighting, 100), &cruise, 6);
+        time_record("record", name, 100, unbounded(weighting, 100), &cruise);
     }
     part.entries = part.ticks = 10000;
-    time_record("record", "OVERSHOOT unbounded, margin", 4095, unbounded("margin", 4095), &part, 6);
-    time_record("record", "gearbox, margin", window_of(gearbox("margin", 0)), gearbox("margin", 0), &gears, 6);
-
-    for (size_t i = 0; i < sizeof parts / sizeof *parts; i++) { /* of the whole record it was timed above */
-        part.entries = part.ticks = parts[i];
-        time_record("length", "OVERSHOOT, margin", parts[i], overshoot("margin", 30, 15), &part, 1);
-    }
+    time_record("record", "OVERSHOOT unbounded, margin", 4095, unbounded("margin", 4095), &part);
+    time_record("record", "gearbox, margin", window_of(gearbox("margin", 0)), gearbox("margin", 0), &gears);
     free_record(&cruise);
     free_record(&swing);
     free_record(&gears);
@@ -312,13 +403,13 @@ static void growth(void)
     struct record cruise = cruise_record(1200, 10);
 
     for (size_t i = 0; i < sizeof highs / sizeof *highs; i++)
-        time_record("window", "OVERSHOOT, margin", highs[i], overshoot("margin", highs[i], 15), &cruise, 1);
+        time_record("window", "OVERSHOOT, margin", highs[i], overshoot("margin", highs[i], 15), &cruise);
     cruise.entries = cruise.ticks = 300;
     for (size_t i = 0; i < sizeof bounds / sizeof *bounds; i++)
-        time_record("ceiling", "OVERSHOOT, margin", bounds[i] + 1, overshoot("margin", 30, bounds[i]), &cruise, 1);
+        time_record("ceiling", "OVERSHOOT, margin", bounds[i] + 1, overshoot("margin", 30, bounds[i]), &cruise);
     cruise.entries = cruise.ticks = 100;
     for (unsigned clocks = 0; clocks <= 4; clocks++)
-        time_record("clocks", "OVERSHOOT, margin", clocks, many_clocks(clocks, 30, 5), &cruise, 1);
+        time_record("clocks", "OVERSHOOT, margin", clocks, many_clocks(clocks, 30, 5), &cruise);
     free_record(&cruise);
 
     /* The source's third question: denser samples of the same car. Bounds and window are the same times, in shorter ticks. */
@@ -326,7 +417,7 @@ static void growth(void)
         unsigned k = factors[i];
 
         cruise = cruise_record(300, 10 / k);
-        time_record("sampling", "OVERSHOOT, margin", k, overshoot("margin", 30 * k, 15 * k), &cruise, 1);
+        time_record("sampling", "OVERSHOOT, margin", k, overshoot("margin", 30 * k, 15 * k), &cruise);
         free_record(&cruise);
     }
 }
@@ -383,29 +474,225 @@ static void large(void)
     free(p);
 }
 
-/* One piece of 1 to 65,535 ticks, fed after a few hundred entries of a record. */
+/* A piece as long as it may be, one of `high` + 2 ticks beside it, and for one case every power of ten. Each is fed after
+ * a few hundred entries of a record. */
 static void pieces(void)
 {
-    static const unsigned highs[] = {10, 30, 100};
-    static const uint32_t durations[] = {1, 10, 100, 1000, 10000, 65535};
-    struct record cruise = cruise_record(301, 10);
+    enum shape { BOUNDED, UNBOUNDED, LOOP, GEARS };
+    static const struct {
+        enum shape shape;
+        const char *name, *weighting;
+        unsigned high;
+    } cases[] = {
+        {BOUNDED, "OVERSHOOT, margin", "margin", 1},
+        {BOUNDED, "OVERSHOOT, margin", "margin", 4},
+        {BOUNDED, "OVERSHOOT, margin", "margin", 10},
+        {BOUNDED, "OVERSHOOT, margin", "margin", 30},
+        {BOUNDED, "OVERSHOOT, margin", "margin", 100},
+        {BOUNDED, "OVERSHOOT, sum", "sum", 1},
+        {BOUNDED, "OVERSHOOT, sum", "sum", 30},
+        {UNBOUNDED, "OVERSHOOT unbounded, margin", "margin", 1},
+        {UNBOUNDED, "OVERSHOOT unbounded, margin", "margin", 4},
+        {UNBOUNDED, "OVERSHOOT unbounded, margin", "margin", 30},
+        {UNBOUNDED, "OVERSHOOT unbounded, margin", "margin", 100},
+        {UNBOUNDED, "OVERSHOOT unbounded, sum", "sum", 4},
+        {UNBOUNDED, "OVERSHOOT unbounded, sum", "sum", 100},
+        {LOOP, "RINGING, margin", "margin", 1},
+        {LOOP, "RINGING, margin", "margin", 4},
+        {LOOP, "RINGING, margin", "margin", 8},
+        {LOOP, "RINGING, margin", "margin", 100},
+        {LOOP, "RINGING, sum", "sum", 8},
+        {GEARS, "gearbox, margin", "margin", 5},
+        {GEARS, "gearbox, margin", "margin", 100},
+        {GEARS, "gearbox, sum", "sum", 5},
+        {GEARS, "gearbox, sum", "sum", 30},
+    };
+    static const uint32_t durations[] = {1, 10, 100, 1000, 10000};
+    struct record cruise = cruise_record(301, 10), swing = swing_record(301, 10), gears = gearbox_record(301);
 
-    cruise.entries = cruise.ticks = 300;
-    for (size_t i = 0; i < sizeof highs / sizeof *highs; i++) {
-        struct pattern *p = new_pattern(overshoot("margin", highs[i], 5));
-        struct lent from = new_lent(p, cruise.ticks);
-        char name[64];
+    for (size_t i = 0; i < sizeof cases / sizeof *cases; i++) {
+        enum shape shape = cases[i].shape;
+        const char *weighting = cases[i].weighting, *name = cases[i].name;
+        unsigned high = cases[i].high;
+        struct pattern *p = new_pattern(shape == BOUNDED     ? overshoot(weighting, high, 5)
+                                        : shape == UNBOUNDED ? unbounded(weighting, high)
+                                        : shape == LOOP      ? ringing(weighting, high, 4, 1)
+                                                             : gearbox(weighting, high));
+        struct record before = shape == LOOP ? swing : shape == GEARS ? gears : cruise;
+        const int32_t *values = before.values + 300 * before.channels; /* of the last entry, which is not fed */
+        struct lent from = new_lent(p, before.ticks);
 
-        snprintf(name, sizeof name, "window %u", highs[i]);
-        if (run_by(LIBRARY, p, &from, &cruise) != CALL_DONE)
+        before.entries = 300;
+        if (run_by(LIBRARY, p, &from, &before) != CALL_DONE)
             fail("a record is refused");
-        for (size_t j = 0; j < sizeof durations / sizeof *durations; j++)
-            if (highs[i] == 100 || durations[j] == 65535)
-                time_call("piece", name, durations[j], p, &from, durations[j], cruise.values + 2 * 300, 0.5);
+        if (shape == BOUNDED && high == 100)
+            for (size_t j = 0; j < sizeof durations / sizeof *durations; j++)
+                time_call("piece", name, high, p, &from, durations[j], values, 0.5);
+        time_call("piece", name, high, p, &from, high + 2, values, 0.3);
+        time_call("piece", name, high, p, &from, PIECE_TICKS_MAX, values, 0.5);
         free_lent(&from);
         free(p);
     }
     free_record(&cruise);
+    free_record(&swing);
+    free_record(&gears);
+}
+
+/* Writing the reports of the longest piece, and nothing else: two stores a tick. */
+static void writing(void)
+{
+    int64_t *scores = memory(PIECE_TICKS_MAX * sizeof *scores);
+    uint32_t *lengths = memory(PIECE_TICKS_MAX * sizeof *lengths);
+    double seconds = 1e9;
+
+    for (int round = 0; round < ROUNDS; round++) {
+        volatile int64_t score = round; /* not known when the loop is compiled */
+        volatile uint32_t length = 1;
+        int64_t told_score = score;
+        uint32_t told_length = length;
+        double start = now(), took;
+
+        for (size_t i = 0; i < PIECE_TICKS_MAX; i++) {
+            scores[i] = told_score;
+            lengths[i] = told_length;
+        }
+        __asm__ volatile("" : : "r"(scores), "r"(lengths) : "memory"); /* they are looked at */
+        took = now() - start;
+        if (took < seconds)
+            seconds = took;
+    }
+    printf("writing\t%u\t%.9f\n", (unsigned)PIECE_TICKS_MAX, seconds);
+    free(scores);
+    free(lengths);
+}
+
+/* ---- the best of a record */
+
+static void check_best(const char *name, int monitor, const struct pattern *p, const struct lent *l,
+                       const struct lent *right, struct record_best best, struct record_best right_best)
+{
+    if (best.refusal != CALL_DONE || right_best.refusal != CALL_DONE || best.found != right_best.found ||
+        best.end != right_best.end || best.begin != right_best.begin || best.score != right_best.score ||
+        memcmp(l->first, right->first, p->cells * sizeof *l->first) != 0 ||
+        memcmp(l->second, right->second, p->cells * sizeof *l->second) != 0) {
+        printf("DIFFERENT %s: the best of a record of %s and %s\n", name, names[monitor], names[LIBRARY]);
+        exit(1);
+    }
+}
+
+/* The library's own function; the plain monitor is fed with the record, and the best of its reports kept. */
+static struct record_best best_by(int monitor, const struct pattern *p, struct lent *l, const struct record *r)
+{
+    struct record_best best = {0};
+    uint32_t now_at = 0;
+
+    if (monitor == LIBRARY)
+        return record_best((const uint8_t *)p->text, p->length, r->durations, r->entries, r->values,
+                           r->entries * r->channels, l->first, p->cells, l->second, p->cells);
+    best.refusal = open_by(monitor, p, l);
+    for (size_t i = 0; i < r->entries && best.refusal == CALL_DONE; i++) {
+        best.refusal = feed_by(monitor, p, l, r->durations[i], r->values + i * r->channels, 0);
+        for (uint32_t t = 0; t < r->durations[i] && best.refusal == CALL_DONE; t++) {
+            now_at++;
+            if (l->lengths[t] == 0)
+                continue;
+            if (!best.found || (p->plain.sum ? l->scores[t] < best.score : l->scores[t] > best.score)) {
+                best.found = 1;
+                best.end = now_at;
+                best.begin = now_at - l->lengths[t];
+                best.score = l->scores[t];
+            }
+        }
+    }
+    return best;
+}
+
+static void time_best(const char *name, size_t high, const char *text, const struct record *r)
+{
+    struct pattern *p = new_pattern(text);
+    struct timing t = new_timing();
+    struct lent lent[MONITORS];
+    struct record_best best[MONITORS];
+
+    for (int m = 0; m < MONITORS; m++)
+        lent[m] = new_lent(p, 4); /* an entry's reports */
+    while (goes_on(&t, 1))
+        for (int m = 0; m < MONITORS; m++) {
+            double start = now();
+
+            best[m] = best_by(m, p, &lent[m], r);
+            count_time(&t, m, now() - start);
+            check_best(name, m, p, &lent[m], &lent[LIBRARY], best[m], best[LIBRARY]);
+        }
+    print_times("best", name, high, r->entries, r->ticks, p, occupied(p, lent[LIBRARY].first), &lent[LIBRARY], &t);
+    for (int m = 0; m < MONITORS; m++)
+        free_lent(&lent[m]);
+    free(p);
+}
+
+/* As many ticks as a record may have, in few pieces: the library alone, once. The plain monitor is fed with pieces of the
+ * same values and few ticks: after `high` + 2 ticks of a piece nothing changes any more, so the best score and the tables
+ * must be the same, and the best end must lie as far behind its piece's beginning. */
+static void time_longest(const char *name, size_t high, const char *text, const struct record *r)
+{
+    struct pattern *p = new_pattern(text);
+    struct record short_one = *r;
+    uint32_t few = 2 * (uint32_t)high + 4, ahead = 0;
+    struct lent l = new_lent(p, 1), plain = new_lent(p, few);
+    struct record_best best, plain_best;
+    double start, took;
+
+    short_one.durations = memory(r->entries * sizeof *short_one.durations);
+    for (size_t i = 0; i < r->entries; i++)
+        short_one.durations[i] = few;
+    start = now();
+    best = best_by(LIBRARY, p, &l, r);
+    took = now() - start;
+    plain_best = best_by(GCC, p, &plain, &short_one);
+    if (plain_best.found) {
+        for (uint32_t i = 0; i < (plain_best.end - 1) / few; i++)
+            ahead += r->durations[i] - few;
+        plain_best.end += ahead;
+        plain_best.begin += ahead;
+    }
+    check_best(name, GCC, p, &plain, &l, plain_best, best);
+    printf("longest\t%s\t%zu\t%zu\t%zu\t%zu\t%.9f\n", name, high, r->entries, r->ticks, p->cells, took);
+    fflush(stdout);
+    free(short_one.durations);
+    free_lent(&l);
+    free_lent(&plain);
+    free(p);
+}
+
+static void bests(void)
+{
+    static const char *const weightings[] = {"margin", "sum"};
+    struct record cruise = cruise_record(1000, 10), swing = swing_record(1000, 10);
+    char name[64];
+
+    for (int w = 0; w < 2; w++) {
+        const char *weighting = weightings[w];
+
+        snprintf(name, sizeof name, "OVERSHOOT, %s", weighting);
+        time_best(name, 30, overshoot(weighting, 30, 15), &cruise);
+        snprintf(name, sizeof name, "RINGING, %s", weighting);
+        time_best(name, 8, ringing(weighting, 8, 8, 4), &swing);
+        snprintf(name, sizeof name, "OVERSHOOT unbounded, %s", weighting);
+        time_best(name, 100, unbounded(weighting, 100), &cruise);
+    }
+    cruise.entries = 5; /* far apart in the car's drive, so that their values differ */
+    cruise.ticks = TICKS_MAX;
+    for (size_t i = 0; i < cruise.entries; i++) {
+        cruise.durations[i] = i == 0 ? TICKS_MAX / 5 + TICKS_MAX % 5 : TICKS_MAX / 5;
+        memcpy(cruise.values + i * cruise.channels, cruise.values + 97 * i * cruise.channels,
+               cruise.channels * sizeof *cruise.values);
+    }
+    for (int w = 0; w < 2; w++) {
+        snprintf(name, sizeof name, "OVERSHOOT, %s", weightings[w]);
+        time_longest(name, 4, overshoot(weightings[w], 4, 5), &cruise);
+    }
+    free_record(&cruise);
+    free_record(&swing);
 }
 
 /* What a call costs before its first cell is looked at: the library reads the pattern's text at each. */
@@ -437,69 +724,130 @@ static void readings(void)
 
 /* ---- refusals */
 
-/* Feeds that each have one fault, and one with all of them but the first; nothing lent may be altered. */
+/* The faults a feed can have, in the order in which their causes are tried: of two the first must be answered. */
+enum fault {
+    TICKS_BELOW_0,
+    LAST_VALUE_OUT,
+    UNUSED_CHANNEL,
+    VALUE_AT_0_TICKS,
+    FIRST_TABLE_SHORT,
+    SECOND_TABLE_SHORT,
+    NO_TICKS,
+    LONG_PIECE,
+    VALUE_OUT,
+    VALUE_TOO_MANY,
+    TICKS_PASS,
+    CELL_OUT,
+    SCORES_SHORT,
+    LENGTHS_SHORT,
+    FAULTS
+};
+
+/* The arguments of a feed, beside what is lent. */
+struct call {
+    size_t first_length, second_length, values_length, scores_length, lengths_length;
+    uint32_t duration;
+    int32_t values[2];
+};
+
+static void make_fault(enum fault fault, const struct pattern *p, struct lent *l, struct call *c)
+{
+    switch (fault) {
+    case TICKS_BELOW_0:
+        l->state[0] = -1;
+        break;
+    case LAST_VALUE_OUT:
+        l->state[1] = VALUE_MAX + 1;
+        break;
+    case UNUSED_CHANNEL:
+        l->state[3] = 1;
+        break;
+    case VALUE_AT_0_TICKS:
+        l->state[0] = 0;
+        break;
+    case FIRST_TABLE_SHORT:
+        c->first_length = p->cells - 1;
+        break;
+    case SECOND_TABLE_SHORT:
+        c->second_length = p->cells - 1;
+        break;
+    case NO_TICKS:
+        c->duration = 0;
+        break;
+    case LONG_PIECE:
+        c->duration = PIECE_TICKS_MAX + 1;
+        break;
+    case VALUE_OUT:
+        c->values[0] = -VALUE_MAX - 1;
+        break;
+    case VALUE_TOO_MANY:
+        c->values_length = 2;
+        break;
+    case TICKS_PASS:
+        l->state[0] = TICKS_MAX - 2;
+        break;
+    case CELL_OUT:
+        l->first[p->cells - 1] = CELL_MAX + 1;
+        break;
+    case SCORES_SHORT:
+        c->scores_length = 2;
+        break;
+    default:
+        c->lengths_length = 2;
+    }
+}
+
+static void copy_lent(const struct pattern *p, struct lent *to, const struct lent *from)
+{
+    memcpy(to->state, from->state, sizeof to->state);
+    memcpy(to->first, from->first, p->cells * sizeof *to->first);
+    memcpy(to->second, from->second, p->cells * sizeof *to->second);
+    memcpy(to->scores, from->scores, to->reports * sizeof *to->scores);
+    memcpy(to->lengths, from->lengths, to->reports * sizeof *to->lengths);
+}
+
+/* Every fault alone (one == other) and every two together; nothing lent may be altered. Two that spoil the same number
+ * leave the first of them. */
 static void refusals(void)
 {
-    enum { FAULTS = 13 };
-    static const uint32_t expected[FAULTS] = {STATE_BROKEN,      STATE_BROKEN,  STATE_BROKEN, STATE_BROKEN, TABLE_TOO_SHORT,
-                                              RECORD_BROKEN,     RECORD_BROKEN, RECORD_BROKEN, RECORD_BROKEN, TOO_MANY_TICKS,
-                                              REPORTS_TOO_SHORT, CELL_BROKEN,   TABLE_TOO_SHORT};
+    static const uint32_t numbers[FAULTS] = {
+        STATE_BROKEN,  STATE_BROKEN,  STATE_BROKEN,  STATE_BROKEN,   TABLE_TOO_SHORT, TABLE_TOO_SHORT,   RECORD_BROKEN,
+        RECORD_BROKEN, RECORD_BROKEN, RECORD_BROKEN, TOO_MANY_TICKS, CELL_BROKEN,     REPORTS_TOO_SHORT, REPORTS_TOO_SHORT};
     struct record swing = swing_record(50, 10);
     struct pattern *p = new_pattern(ringing("sum", 8, 8, 4));
-    struct lent l = new_lent(p, swing.ticks), saved = new_lent(p, swing.ticks);
+    struct lent sound = new_lent(p, swing.ticks), l = new_lent(p, swing.ticks), saved = new_lent(p, swing.ticks);
+    size_t tried = 0;
 
-    for (int fault = 0; fault < FAULTS; fault++)
-        for (int m = 0; m < MONITORS; m++) {
-            struct pattern shorter = *p; /* what the monitor is told of the tables' length */
-            int32_t values[2] = {5, 5};
-            uint32_t duration = 3, answer;
-            size_t room = swing.ticks, all = fault == FAULTS - 1;
+    if (run_by(LIBRARY, p, &sound, &swing) != CALL_DONE)
+        fail("a record is refused");
+    for (int one = 0; one < FAULTS; one++)
+        for (int other = one; other < FAULTS; other++) {
+            for (int m = 0; m < MONITORS; m++) {
+                struct call c = {p->cells, p->cells, 1, swing.ticks, swing.ticks, 3, {5, 5}};
+                uint32_t answer;
 
-            if (run_by(LIBRARY, p, &l, &swing) != CALL_DONE)
-                fail("a record is refused");
-            if (fault == 0)
-                l.state[0] = -1;
-            if (fault == 1)
-                l.state[1] = VALUE_MAX + 1;
-            if (fault == 2)
-                l.state[3] = 1; /* a channel that the pattern lacks */
-            if (fault == 3)
-                l.state[0] = 0; /* but there is a last value */
-            if (fault == 4 || all)
-                shorter.cells--;
-            if (fault == 5 || all)
-                duration = 0;
-            if (fault == 6)
-                duration = PIECE_TICKS_MAX + 1;
-            if (fault == 7)
-                values[0] = -VALUE_MAX - 1;
-            if (fault == 8)
-                shorter.plain.channels = 2;
-            if (fault == 9 || all)
-                l.state[0] = TICKS_MAX - 2;
-            if (fault == 10 || all)
-                room = 2;
-            if (fault == 11 || all)
-                l.first[p->cells - 1] = CELL_MAX + 1;
-            memcpy(saved.state, l.state, sizeof l.state);
-            memcpy(saved.first, l.first, p->cells * sizeof *l.first);
-            memcpy(saved.second, l.second, p->cells * sizeof *l.second);
-            memcpy(saved.scores, l.scores, l.reports * sizeof *l.scores);
-            memcpy(saved.lengths, l.lengths, l.reports * sizeof *l.lengths);
-            if (m == LIBRARY)
-                answer = monitor_feed((const uint8_t *)p->text, p->length, l.state, MONITOR_STATE_LENGTH, l.first,
-                                      shorter.cells, l.second, p->cells, duration, values,
-                                      (size_t)shorter.plain.channels, l.scores, room, l.lengths, swing.ticks);
-            else
-                answer = (m == GCC ? plain_feed_gcc : plain_feed_clang)(
-                    &p->plain, l.state, MONITOR_STATE_LENGTH, l.first, shorter.cells, l.second, p->cells, duration, values,
-                    (size_t)shorter.plain.channels, l.scores, room, l.lengths, swing.ticks);
-            if (answer != expected[fault]) {
-                printf("DIFFERENT fault %d: %s answers %" PRIu32 "\n", fault, names[m], answer);
-                exit(1);
+                copy_lent(p, &l, &sound);
+                make_fault((enum fault)other, p, &l, &c);
+                make_fault((enum fault)one, p, &l, &c);
+                copy_lent(p, &saved, &l);
+                if (m == LIBRARY)
+                    answer = monitor_feed((const uint8_t *)p->text, p->length, l.state, MONITOR_STATE_LENGTH, l.first,
+                                          c.first_length, l.second, c.second_length, c.duration, c.values,
+                                          c.values_length, l.scores, c.scores_length, l.lengths, c.lengths_length);
+                else
+                    answer = (m == GCC ? plain_feed_gcc : plain_feed_clang)(
+                        &p->plain, l.state, MONITOR_STATE_LENGTH, l.first, c.first_length, l.second, c.second_length,
+                        c.duration, c.values, c.values_length, l.scores, c.scores_length, l.lengths, c.lengths_length);
+                if (answer != numbers[one]) {
+                    printf("DIFFERENT faults %d and %d: %s answers %" PRIu32 "\n", one, other, names[m], answer);
+                    exit(1);
+                }
+                compare("a refused call", m, p, &l, &saved, CALL_DONE, CALL_DONE);
             }
-            compare("a refused call", m, p, &l, &saved, CALL_DONE, CALL_DONE);
+            tried++;
         }
+    printf("refusals\t%d\t%zu\n", FAULTS, tried);
+    free_lent(&sound);
     free_lent(&l);
     free_lent(&saved);
     free(p);
@@ -542,6 +890,51 @@ static FILE *create(const char *directory, const char *name)
     return file;
 }
 
+static double wall(void)
+{
+    struct timespec t;
+
+    clock_gettime(CLOCK_MONOTONIC, &t);
+    return (double)t.tv_sec + (double)t.tv_nsec * 1e-9;
+}
+
+/* Runs the scorer on the files in the directory until 0.2 seconds are spent, three times at least: the least time, and the
+ * most memory in KiB. What it prints is in `output`. */
+static double run_scorer(const char *scorer, const char *directory, FILE *output, long *kib)
+{
+    double least = 1e9, spent = 0;
+
+    fflush(stdout);
+    *kib = 0;
+    for (int round = 0; round < 3 || spent < 0.2; round++) {
+        struct rusage used;
+        double start, took;
+        int status;
+        pid_t child;
+
+        if (ftruncate(fileno(output), 0) != 0)
+            fail("a file cannot be emptied");
+        rewind(output);
+        start = wall();
+        child = fork();
+        if (child == 0) {
+            dup2(fileno(output), 1);
+            execl(scorer, scorer, directory, (char *)NULL);
+            _exit(127);
+        }
+        if (child < 0 || wait4(child, &status, 0, &used) != child || status != 0)
+            fail("the second scorer does not end well");
+        took = wall() - start;
+        spent += took;
+        if (took < least)
+            least = took;
+        if (used.ru_maxrss > *kib)
+            *kib = used.ru_maxrss;
+    }
+    return least;
+}
+
+/* A line: case, window, entries, ticks, cells, seconds of the library, rounds and spread, seconds of the scorer, its KiB. */
 static void second_case(const char *scorer, const char *directory, const char *name, size_t high, const char *text,
                         const struct record *r)
 {
@@ -549,12 +942,11 @@ static void second_case(const char *scorer, const char *directory, const char *n
     struct lent l = new_lent(p, r->ticks);
     FILE *pattern = create(directory, "pattern.txt"), *record = create(directory, "record.txt");
     FILE *output = create(directory, "output.txt");
-    double seconds = 1e9, of_scorer;
-    struct rusage used;
+    struct timing t = new_timing();
+    double of_scorer;
     size_t length, got;
     char *expected, *bytes;
-    int status;
-    pid_t child;
+    long kib;
 
     fputs(p->text, pattern);
     for (size_t i = 0; i < r->entries; i++) {
@@ -565,25 +957,13 @@ static void second_case(const char *scorer, const char *directory, const char *n
     }
     fclose(pattern);
     fclose(record);
-    fflush(stdout);
-    child = fork();
-    if (child == 0) {
-        dup2(fileno(output), 1);
-        execl(scorer, scorer, directory, (char *)NULL);
-        _exit(127);
-    }
-    if (child < 0 || wait4(child, &status, 0, &used) != child || status != 0)
-        fail("the second scorer does not end well");
-    of_scorer = (double)used.ru_utime.tv_sec + (double)used.ru_utime.tv_usec * 1e-6;
-
-    for (int round = 0; round < 5; round++) {
-        double start = now(), took;
+    of_scorer = run_scorer(scorer, directory, output, &kib);
+    while (goes_on(&t, 0.2)) {
+        double start = now();
 
         if (run_by(LIBRARY, p, &l, r) != CALL_DONE)
             fail("a record is refused");
-        took = now() - start;
-        if (took < seconds)
-            seconds = took;
+        count_time(&t, LIBRARY, now() - start);
     }
     expected = rows(p, &l, &length);
     bytes = memory(length + 1);
@@ -593,7 +973,8 @@ static void second_case(const char *scorer, const char *directory, const char *n
         printf("DIFFERENT %s, window %zu: the rows of the second scorer and the library\n", name, high);
         exit(1);
     }
-    printf("second\t%s\t%zu\t%zu\t%zu\t%zu\t%.9f\t%.9f\n", name, high, r->entries, r->ticks, p->cells, seconds, of_scorer);
+    printf("second\t%s\t%zu\t%zu\t%zu\t%zu\t%.9f\t%d\t%.3f\t%.9f\t%ld\n", name, high, r->entries, r->ticks, p->cells,
+           t.least[LIBRARY], t.rounds, t.greatest / t.least[LIBRARY], of_scorer, kib);
     fflush(stdout);
     fclose(output);
     free(expected);
@@ -602,16 +983,25 @@ static void second_case(const char *scorer, const char *directory, const char *n
     free(p);
 }
 
-/* The scorer keeps to the limits of the program watch: 2,048 cells, a record of 16,384 bytes. */
+/* The scorer keeps to the limits of the program watch: 2,048 cells, a record of 16,384 bytes. The bounds are those of
+ * `records`, the windows as large as these cells and its patience allow; RINGING has smaller bounds in a second line. */
 static void second(const char *scorer, const char *directory)
 {
-    static const unsigned highs[] = {4, 8, 12, 16, 24};
+    static const unsigned bounded[] = {4, 8, 11}, free_ones[] = {4, 8, 16, 24, 40};
     struct record cruise = cruise_record(700, 10), swing = swing_record(900, 10), gears = gearbox_record(600);
+    struct record none = cruise;
 
-    for (size_t i = 0; i < sizeof highs / sizeof *highs; i++)
-        second_case(scorer, directory, "OVERSHOOT, margin", highs[i], overshoot("margin", highs[i], 6), &cruise);
-    second_case(scorer, directory, "OVERSHOOT, sum", 16, overshoot("sum", 16, 6), &cruise);
-    second_case(scorer, directory, "RINGING, margin", 8, ringing("margin", 8, 4, 1), &swing);
+    none.entries = none.ticks = 0; /* what starting it costs */
+    second_case(scorer, directory, "no record", 8, overshoot("margin", 8, 15), &none);
+    for (size_t i = 0; i < sizeof bounded / sizeof *bounded; i++)
+        second_case(scorer, directory, "OVERSHOOT, margin", bounded[i], overshoot("margin", bounded[i], 15), &cruise);
+    second_case(scorer, directory, "OVERSHOOT, sum", 11, overshoot("sum", 11, 15), &cruise);
+    for (size_t i = 0; i < sizeof free_ones / sizeof *free_ones; i++)
+        second_case(scorer, directory, "OVERSHOOT unbounded, margin", free_ones[i], unbounded("margin", free_ones[i]),
+                    &cruise);
+    second_case(scorer, directory, "OVERSHOOT unbounded, sum", 24, unbounded("sum", 24), &cruise);
+    second_case(scorer, directory, "RINGING, margin", 2, ringing("margin", 2, 8, 4), &swing);
+    second_case(scorer, directory, "RINGING with bounds 4 and 1, margin", 8, ringing("margin", 8, 4, 1), &swing);
     second_case(scorer, directory, "gearbox, margin", window_of(gearbox("margin", 0)), gearbox("margin", 0), &gears);
     free_record(&cruise);
     free_record(&swing);
@@ -750,29 +1140,29 @@ static void stack(void)
 
 int main(int argc, char **argv)
 {
-    if (argc == 2 && strcmp(argv[1], "times") == 0) {
-        experiments();
-        growth();
-        fills();
-        large();
-        pieces();
-        readings();
-    } else if (argc == 4 && strcmp(argv[1], "second") == 0) {
+    static const struct {
+        const char *name;
+        void (*run)(void);
+    } parts[] = {{"records", records}, {"growth", growth}, {"fills", fills},       {"large", large}, {"pieces", pieces},
+                 {"writing", writing}, {"bests", bests},   {"readings", readings}, {"stack", stack}, {"refusals", refusals}};
+
+    for (size_t i = 0; argc == 2 && i < sizeof parts / sizeof *parts; i++)
+        if (strcmp(argv[1], parts[i].name) == 0) {
+            parts[i].run();
+            return 0;
+        }
+    if (argc == 4 && strcmp(argv[1], "second") == 0) {
         second(argv[2], argv[3]);
     } else if (argc == 5 && strcmp(argv[1], "memory") == 0) {
         memory_of(argv[2], argv[3], (size_t)atol(argv[4]));
-    } else if (argc == 2 && strcmp(argv[1], "stack") == 0) {
-        stack();
     } else if (argc == 3 && strcmp(argv[1], "differs") == 0) {
         struct record swing = swing_record(200, 10);
 
         spoiled = atoi(argv[2]);
-        time_record("differs", "RINGING, margin", 8, ringing("margin", 8, 8, 4), &swing, 0);
+        time_record("differs", "RINGING, margin", 8, ringing("margin", 8, 8, 4), &swing);
         free_record(&swing);
-    } else if (argc == 2 && strcmp(argv[1], "refusals") == 0) {
-        refusals();
     } else {
-        fail("usage: measure times | second SCORER DIR | memory CASE MONITOR ENTRIES | stack | differs N | refusals");
+        fail("usage: measure PART | second SCORER DIR | memory CASE MONITOR ENTRIES | differs N");
     }
     return 0;
 }
