@@ -695,8 +695,11 @@ fn random_cases(random: &mut Random, cases: &mut Cases) {
             cases.add("small", "ok", pattern.text(), &lines);
         }
         if !record.is_empty() && random.percent(40) {
-            let cut = cut_anew(random, &record);
-            cases.add("small-cut-anew", "ok", pattern.text(), text(&record_lines(&cut)));
+            let cut = text(&record_lines(&cut_anew(random, &record)));
+            for weighting in ["margin", "sum"] {
+                pattern.weighting = weighting;
+                cases.add("small-cut-anew", "ok", pattern.text(), &cut);
+            }
         }
     }
     type Maker = fn(&mut Random) -> (Pattern, Record);
