@@ -8,8 +8,8 @@
  * tables gets; without it they get what the pattern needs.
  *
  * A refusal prints one line, as `refused 8`, and ends the program with status 1. Lines before it stay printed: a record
- * that is still arriving cannot be judged whole. What goes wrong outside of the monitor (no memory, a wrong call of the
- * program) is told on standard error, status 2. */
+ * that is still arriving cannot be judged whole. What goes wrong outside of the monitor (no memory, a file that opens and
+ * cannot be read, a wrong call of the program) is told on standard error, status 2. */
 #include <errno.h>
 #include <inttypes.h>
 #include <stdio.h>
@@ -192,6 +192,13 @@ static int open_monitor(struct bench *b, const char *cells)
 
 /* ---- the program */
 
+/* A file that opens and then cannot be read, as a folder. */
+static int unreadable(const char *path)
+{
+    fprintf(stderr, "bench: %s: %s\n", path, strerror(errno));
+    return 2;
+}
+
 /* A file that cannot be opened counts as empty, and is told of. */
 static FILE *opened(const char *path)
 {
@@ -202,7 +209,7 @@ static FILE *opened(const char *path)
     return file;
 }
 
-static int run(struct bench *b, FILE *record)
+static int run(struct bench *b, FILE *record, const char *path)
 {
     static char line[LINE_MAX_BYTES + 2];
     size_t length = 0;
@@ -215,19 +222,21 @@ static int run(struct bench *b, FILE *record)
         uint32_t refusal;
 
         if (length == LINE_MAX_BYTES)
-            return refused(PATTERN_TEXT_TOO_LONG);
+            return refused(TEXT_TOO_LONG);
         line[length++] = (char)byte;
         if (byte != '\n')
             continue;
         line[length] = '\0';
-        refusal = read_piece(line, length, &piece) ? feed(b, &piece) : PATTERN_BROKEN_FORM;
+        refusal = read_piece(line, length, &piece) ? feed(b, &piece) : TEXT_BROKEN;
         if (refusal != CALL_DONE)
             return refused(refusal);
         fflush(stdout); /* whoever watches the bench sees a piece's lines when it has come */
         length = 0;
     }
+    if (record && ferror(record))
+        return unreadable(path);
     if (length != 0)
-        return refused(PATTERN_BROKEN_FORM);
+        return refused(TEXT_BROKEN);
     if (b->found)
         printf("best %" PRId64 " %" PRId64 " %" PRId64 "\n", b->best_end, b->best_begin, b->best_score);
     else
@@ -238,9 +247,9 @@ static int run(struct bench *b, FILE *record)
 int main(int argc, char **argv)
 {
     static struct bench b;
-    const char *cells = NULL;
+    const char *cells = NULL, *record_path = "standard input";
     FILE *pattern, *record = stdin;
-    int at = 1, status;
+    int at = 1, status = 0;
 
     if (argc > 2 && strcmp(argv[1], "-c") == 0) {
         cells = argv[2];
@@ -251,13 +260,18 @@ int main(int argc, char **argv)
     pattern = opened(argv[at]);
     if (pattern) {
         b.length = fread(b.text, 1, sizeof b.text, pattern);
+        if (ferror(pattern))
+            status = unreadable(argv[at]);
         fclose(pattern);
     }
-    if (argc - at == 2 && strcmp(argv[at + 1], "-") != 0)
-        record = opened(argv[at + 1]);
-    status = open_monitor(&b, cells);
+    if (argc - at == 2 && strcmp(argv[at + 1], "-") != 0) {
+        record_path = argv[at + 1];
+        record = opened(record_path);
+    }
     if (status == 0)
-        status = run(&b, record);
+        status = open_monitor(&b, cells);
+    if (status == 0)
+        status = run(&b, record, record_path);
     if (record)
         fclose(record);
     free(b.first);

@@ -47,7 +47,7 @@ static uint32_t case_record(struct case_record *r, const char *from, size_t byte
 {
     r->pieces = 0;
     if (bytes > CASE_RECORD_BYTES)
-        return PATTERN_TEXT_TOO_LONG;
+        return TEXT_TOO_LONG;
     case_at = from;
     case_end = from + bytes;
     while (case_at < case_end) {
@@ -56,20 +56,20 @@ static uint32_t case_record(struct case_record *r, const char *from, size_t byte
 
         *count = 0;
         if (!case_word("(piece ") || !case_number(&value))
-            return PATTERN_BROKEN_FORM;
+            return TEXT_BROKEN;
         /* a duration of that many ticks is in range, so one that is longer is held past it */
         r->ticks[r->pieces] = value == INT32_MAX && memcmp(case_at - 10, "2147483647", 10) != 0 ? UINT32_MAX : (uint32_t)value;
         while (case_word(" ")) {
             int minus = case_word("-");
 
             if (!case_number(&value) || (minus && value == 0))
-                return PATTERN_BROKEN_FORM;
+                return TEXT_BROKEN;
             if (*count < PATTERN_CHANNELS_MAX)
                 r->sample[r->pieces][*count] = (int32_t)(minus ? -value : value);
             ++*count;
         }
         if (*count == 0 || !case_word(")\n"))
-            return PATTERN_BROKEN_FORM;
+            return TEXT_BROKEN;
         r->pieces++;
     }
     return 0;
