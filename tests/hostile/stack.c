@@ -14,8 +14,9 @@
 #define STACK (512 * 1024)
 #define LIMIT (64 * 1024)
 #define PAINT 0xc7
-#define CELLS 4096
-#define TICKS 1000
+#define CELLS 16384
+#define PIECES RECORD_PIECES_MAX
+#define STEPS RUN_STEPS_MAX
 
 static unsigned char *stack;
 static ucontext_t here, there;
@@ -23,10 +24,10 @@ static void (*call)(void);
 
 static uint8_t text[PATTERN_TEXT_MAX];
 static size_t length;
-static int64_t state[MONITOR_STATE_LENGTH], first[CELLS], second[CELLS], scores[TICKS];
-static uint32_t lengths[TICKS], durations[] = {9, 400, 1, 70, 2000}, edges[] = {0, 1, 0, 1}, stays[] = {3, 4, 2, 6};
-static int32_t values[5 * 8];
-static uint32_t ticks = 1, answer;
+static int64_t state[MONITOR_STATE_LENGTH], first[CELLS], second[CELLS], scores[PIECE_TICKS_MAX];
+static uint32_t lengths[PIECE_TICKS_MAX], durations[PIECES], edges[STEPS], stays[STEPS];
+static int32_t values[PIECES * 8];
+static uint32_t ticks = PIECE_TICKS_MAX, answer;
 
 static void do_check(void) { answer |= pattern_check(text, length); }
 static void do_cells(void) { answer |= pattern_cells(text, length) == 0; }
@@ -37,16 +38,16 @@ static void do_open(void)
 static void do_feed(void)
 {
     answer |= monitor_feed(text, length, state, MONITOR_STATE_LENGTH, first, CELLS, second, CELLS, ticks, values, 8,
-                           scores, TICKS, lengths, TICKS);
+                           scores, PIECE_TICKS_MAX, lengths, PIECE_TICKS_MAX);
     state[0] = 1; /* so that the ticks in all stay few */
 }
 static void do_price(void)
 {
-    answer |= run_price(text, length, durations, 5, values, 40, 2, edges, 4, stays, 4).refusal;
+    answer |= run_price(text, length, durations, PIECES, values, PIECES * 8, 2, edges, STEPS, stays, STEPS).refusal;
 }
 static void do_best(void)
 {
-    answer |= record_best(text, length, durations, 5, values, 40, first, CELLS, second, CELLS).refusal;
+    answer |= record_best(text, length, durations, PIECES, values, PIECES * 8, first, CELLS, second, CELLS).refusal;
 }
 
 static const struct {
@@ -99,15 +100,23 @@ int main(int argc, char **argv)
     size_t empty;
 
     (void)argv;
-    /* 16 places with four tests each and 32 edges with guards and resets: the longest of everything but the window */
-    add("(pattern sum 8 2 1 3)\n(place both (> 0 -5) (>= 1 -9) (< 2 9) (<= 7 3))\n");
-    for (int i = 0; i < 15; i++)
-        add(i == 0 ? "(place both (> 3 -5) (>= 4 -9) (< 5 9) (<= 6 3))\n" : "(place plain (> 3 -5) (>= 4 -9) (< 5 9) (<= 6 3))\n");
-    add("(edge 0 1 (<= 0 3) (>= 1 1))\n(edge 1 0 (reset 0 1))\n");
-    for (int i = 0; i < 30; i++)
-        add(i % 2 ? "(edge 0 5 (> 0 1) (reset 1))\n" : "(edge 5 1 (< 0 3) (> 1 0) (reset 0))\n");
-    for (int i = 0; i < 40; i++)
+    /* the longest of everything but the window and the bounds: 16 places with four tests each, 32 edges with four guards and
+     * all resets, a record of 4,096 pieces, a run of 4,095 steps, a feed of 65,535 ticks */
+    add("(pattern sum 8 4 1 3)\n");
+    for (int i = 0; i < 16; i++)
+        add(i < 2 ? "(place both (> 0 -5) (>= 1 -9) (< 2 9) (<= 7 3))\n"
+                  : "(place plain (> 3 -5) (>= 4 -9) (< 5 9) (<= 6 3))\n");
+    for (int i = 0; i < 16; i++)
+        add("(edge 0 1 (>= 0 1) (> 1 0) (>= 2 1) (<= 3 1) (reset 0 1 2 3))\n"
+            "(edge 1 0 (<= 3 1) (>= 2 1) (> 1 0) (>= 0 1) (reset 0 1 2 3))\n");
+    for (int i = 0; i < PIECES; i++)
+        durations[i] = 2;
+    for (int i = 0; i < PIECES * 8; i++)
         values[i] = i % 13 - 6;
+    for (int i = 0; i < STEPS; i++) {
+        edges[i] = (uint32_t)i % 32;
+        stays[i] = 1;
+    }
     stack = malloc(STACK);
     if (!stack || pattern_cells(text, length) > CELLS) {
         printf("0 passed, 1 failed\n");
@@ -125,21 +134,20 @@ int main(int argc, char **argv)
         else
             failed++;
         if (timed) {
-            for (ticks = 1; ticks <= TICKS; ticks *= functions[i].call == do_feed ? 10 : 10000) {
+            for (ticks = 1; ticks <= 1000; ticks *= functions[i].call == do_feed ? 10 : 10000) {
                 double start = now(), spent;
                 uint64_t calls = 0;
 
                 do {
-                    for (int n = 0; n < 50; n++)
-                        functions[i].call();
-                    calls += 50;
+                    functions[i].call();
+                    calls++;
                 } while ((spent = now() - start) < 0.5);
                 printf("              %.0f calls a second", (double)calls / spent);
                 if (functions[i].call == do_feed)
                     printf(", %" PRIu32 " ticks each", ticks);
                 printf("\n");
             }
-            ticks = 1;
+            ticks = PIECE_TICKS_MAX;
         }
     }
     free(stack);
