@@ -5,8 +5,7 @@
  *     measure growth             other growth: window, ceiling, clocks, denser samples
  *     measure fills              one tick from tables of different occupation
  *     measure large              a table of 100,000 cells
- *     measure pieces             pieces of different length
- *     measure writing            writing the reports of the longest piece, nothing else
+ *     measure pieces             pieces of different length, and writing reports alone
  *     measure bests              the best of a record
  *     measure readings           reading the pattern's text
  *     measure second SCORER DIR  the second scorer, on cases that it can follow; DIR is for its files
@@ -343,8 +342,9 @@ static void time_call(const char *kind, const char *name, size_t varied, const s
             start = now();
             answers[m] = feed_by(m, p, &lent[m], duration, values, 0);
             count_time(&t, m, now() - start);
-            compare(name, m, p, &lent[m], &lent[LIBRARY], answers[m], answers[LIBRARY]);
         }
+        for (int m = GCC; m < MONITORS; m++) /* with what they left in the first round, if the library is alone */
+            compare(name, m, p, &lent[m], &lent[LIBRARY], answers[m], answers[LIBRARY]);
         if (t.rounds == 1 && t.spent > 2) {
             monitors = 1;
             t.spent = 0;
@@ -474,6 +474,57 @@ static void large(void)
     free(p);
 }
 
+/* Writing the reports of the longest piece, and nothing else: two stores a tick. */
+static double write_reports(int64_t *scores, uint32_t *lengths, int64_t score, uint32_t length)
+{
+    double start = now();
+
+    for (size_t i = 0; i < PIECE_TICKS_MAX; i++) {
+        scores[i] = score;
+        lengths[i] = length;
+    }
+    __asm__ volatile("" : : "r"(scores), "r"(lengths) : "memory"); /* they are looked at */
+    return now() - start;
+}
+
+/* What the library takes for a piece of `high` + 2 ticks, for the longest one, and what writing the reports of the longest
+ * takes, in turn, as many rounds as fit 0.3 seconds and seven at least. A line: case, window, the three least times. */
+static void time_steady(const char *name, unsigned high, const struct pattern *p, const struct lent *from,
+                        const int32_t *values)
+{
+    const uint32_t durations[] = {high + 2, PIECE_TICKS_MAX};
+    struct lent l = new_lent(p, PIECE_TICKS_MAX);
+    int64_t *scores = memory(PIECE_TICKS_MAX * sizeof *scores);
+    uint32_t *lengths = memory(PIECE_TICKS_MAX * sizeof *lengths);
+    double least[3] = {1e9, 1e9, 1e9}, spent = 0;
+
+    for (int round = 0; round < 7 || (round < ROUNDS && spent < 0.3); round++)
+        for (int i = 0; i < 3; i++) {
+            double took;
+
+            if (i < 2) {
+                double start;
+
+                memcpy(l.state, from->state, sizeof from->state);
+                memcpy(l.first, from->first, p->cells * sizeof *from->first);
+                memcpy(l.second, from->second, p->cells * sizeof *from->second);
+                start = now();
+                if (feed_by(LIBRARY, p, &l, durations[i], values, 0) != CALL_DONE)
+                    fail("a piece is refused");
+                took = now() - start;
+            } else {
+                took = write_reports(scores, lengths, l.scores[round], l.lengths[round]);
+            }
+            spent += took;
+            if (took < least[i])
+                least[i] = took;
+        }
+    printf("steady\t%s\t%u\t%.9f\t%.9f\t%.9f\n", name, high, least[0], least[1], least[2]);
+    free_lent(&l);
+    free(scores);
+    free(lengths);
+}
+
 /* A piece as long as it may be, one of `high` + 2 ticks beside it, and for one case every power of ten. Each is fed after
  * a few hundred entries of a record. */
 static void pieces(void)
@@ -530,40 +581,13 @@ static void pieces(void)
                 time_call("piece", name, high, p, &from, durations[j], values, 0.5);
         time_call("piece", name, high, p, &from, high + 2, values, 0.3);
         time_call("piece", name, high, p, &from, PIECE_TICKS_MAX, values, 0.5);
+        time_steady(name, high, p, &from, values);
         free_lent(&from);
         free(p);
     }
     free_record(&cruise);
     free_record(&swing);
     free_record(&gears);
-}
-
-/* Writing the reports of the longest piece, and nothing else: two stores a tick. */
-static void writing(void)
-{
-    int64_t *scores = memory(PIECE_TICKS_MAX * sizeof *scores);
-    uint32_t *lengths = memory(PIECE_TICKS_MAX * sizeof *lengths);
-    double seconds = 1e9;
-
-    for (int round = 0; round < ROUNDS; round++) {
-        volatile int64_t score = round; /* not known when the loop is compiled */
-        volatile uint32_t length = 1;
-        int64_t told_score = score;
-        uint32_t told_length = length;
-        double start = now(), took;
-
-        for (size_t i = 0; i < PIECE_TICKS_MAX; i++) {
-            scores[i] = told_score;
-            lengths[i] = told_length;
-        }
-        __asm__ volatile("" : : "r"(scores), "r"(lengths) : "memory"); /* they are looked at */
-        took = now() - start;
-        if (took < seconds)
-            seconds = took;
-    }
-    printf("writing\t%u\t%.9f\n", (unsigned)PIECE_TICKS_MAX, seconds);
-    free(scores);
-    free(lengths);
 }
 
 /* ---- the best of a record */
@@ -630,7 +654,7 @@ static void time_best(const char *name, size_t high, const char *text, const str
     free(p);
 }
 
-/* As many ticks as a record may have, in few pieces: the library alone, once. The plain monitor is fed with pieces of the
+/* As many ticks as a record may have, in few pieces: the library alone. The plain monitor is fed with pieces of the
  * same values and few ticks: after `high` + 2 ticks of a piece nothing changes any more, so the best score and the tables
  * must be the same, and the best end must lie as far behind its piece's beginning. */
 static void time_longest(const char *name, size_t high, const char *text, const struct record *r)
@@ -640,14 +664,17 @@ static void time_longest(const char *name, size_t high, const char *text, const 
     uint32_t few = 2 * (uint32_t)high + 4, ahead = 0;
     struct lent l = new_lent(p, 1), plain = new_lent(p, few);
     struct record_best best, plain_best;
-    double start, took;
+    struct timing t = new_timing();
 
     short_one.durations = memory(r->entries * sizeof *short_one.durations);
     for (size_t i = 0; i < r->entries; i++)
         short_one.durations[i] = few;
-    start = now();
-    best = best_by(LIBRARY, p, &l, r);
-    took = now() - start;
+    while (goes_on(&t, 0.3)) {
+        double start = now();
+
+        best = best_by(LIBRARY, p, &l, r);
+        count_time(&t, LIBRARY, now() - start);
+    }
     plain_best = best_by(GCC, p, &plain, &short_one);
     if (plain_best.found) {
         for (uint32_t i = 0; i < (plain_best.end - 1) / few; i++)
@@ -656,7 +683,8 @@ static void time_longest(const char *name, size_t high, const char *text, const 
         plain_best.begin += ahead;
     }
     check_best(name, GCC, p, &plain, &l, plain_best, best);
-    printf("longest\t%s\t%zu\t%zu\t%zu\t%zu\t%.9f\n", name, high, r->entries, r->ticks, p->cells, took);
+    printf("longest\t%s\t%zu\t%zu\t%zu\t%zu\t%.9f\t%d\t%.3f\n", name, high, r->entries, r->ticks, p->cells,
+           t.least[LIBRARY], t.rounds, t.greatest / t.least[LIBRARY]);
     fflush(stdout);
     free(short_one.durations);
     free_lent(&l);
@@ -680,7 +708,7 @@ static void bests(void)
         snprintf(name, sizeof name, "OVERSHOOT unbounded, %s", weighting);
         time_best(name, 100, unbounded(weighting, 100), &cruise);
     }
-    cruise.entries = 5; /* far apart in the car's drive, so that their values differ */
+    cruise.entries = 5; /* with values that are far apart in the car's drive */
     cruise.ticks = TICKS_MAX;
     for (size_t i = 0; i < cruise.entries; i++) {
         cruise.durations[i] = i == 0 ? TICKS_MAX / 5 + TICKS_MAX % 5 : TICKS_MAX / 5;
@@ -689,7 +717,9 @@ static void bests(void)
     }
     for (int w = 0; w < 2; w++) {
         snprintf(name, sizeof name, "OVERSHOOT, %s", weightings[w]);
-        time_longest(name, 4, overshoot(weightings[w], 4, 5), &cruise);
+        time_longest(name, 30, overshoot(weightings[w], 30, 15), &cruise);
+        snprintf(name, sizeof name, "OVERSHOOT unbounded, %s", weightings[w]);
+        time_longest(name, 100, unbounded(weightings[w], 100), &cruise);
     }
     free_record(&cruise);
     free_record(&swing);
@@ -898,15 +928,15 @@ static double wall(void)
     return (double)t.tv_sec + (double)t.tv_nsec * 1e-9;
 }
 
-/* Runs the scorer on the files in the directory until 0.2 seconds are spent, three times at least: the least time, and the
- * most memory in KiB. What it prints is in `output`. */
+/* Runs the scorer on the files in the directory until 0.2 seconds are spent, three times at least unless the first took over a
+ * second: the least time, and the most memory in KiB. What it prints is in `output`. */
 static double run_scorer(const char *scorer, const char *directory, FILE *output, long *kib)
 {
     double least = 1e9, spent = 0;
 
     fflush(stdout);
     *kib = 0;
-    for (int round = 0; round < 3 || spent < 0.2; round++) {
+    for (int round = 0; spent < 0.2 || (round < 3 && spent < 1); round++) {
         struct rusage used;
         double start, took;
         int status;
@@ -987,7 +1017,7 @@ static void second_case(const char *scorer, const char *directory, const char *n
  * `records`, the windows as large as these cells and its patience allow; RINGING has smaller bounds in a second line. */
 static void second(const char *scorer, const char *directory)
 {
-    static const unsigned bounded[] = {4, 8, 11}, free_ones[] = {4, 8, 16, 24, 40};
+    static const unsigned bounded[] = {4, 8, 11}, free_ones[] = {4, 8, 16};
     struct record cruise = cruise_record(700, 10), swing = swing_record(900, 10), gears = gearbox_record(600);
     struct record none = cruise;
 
@@ -999,7 +1029,7 @@ static void second(const char *scorer, const char *directory)
     for (size_t i = 0; i < sizeof free_ones / sizeof *free_ones; i++)
         second_case(scorer, directory, "OVERSHOOT unbounded, margin", free_ones[i], unbounded("margin", free_ones[i]),
                     &cruise);
-    second_case(scorer, directory, "OVERSHOOT unbounded, sum", 24, unbounded("sum", 24), &cruise);
+    second_case(scorer, directory, "OVERSHOOT unbounded, sum", 16, unbounded("sum", 16), &cruise);
     second_case(scorer, directory, "RINGING, margin", 2, ringing("margin", 2, 8, 4), &swing);
     second_case(scorer, directory, "RINGING with bounds 4 and 1, margin", 8, ringing("margin", 8, 4, 1), &swing);
     second_case(scorer, directory, "gearbox, margin", window_of(gearbox("margin", 0)), gearbox("margin", 0), &gears);
@@ -1144,7 +1174,7 @@ int main(int argc, char **argv)
         const char *name;
         void (*run)(void);
     } parts[] = {{"records", records}, {"growth", growth}, {"fills", fills},       {"large", large}, {"pieces", pieces},
-                 {"writing", writing}, {"bests", bests},   {"readings", readings}, {"stack", stack}, {"refusals", refusals}};
+                 {"bests", bests},     {"readings", readings}, {"stack", stack}, {"refusals", refusals}};
 
     for (size_t i = 0; argc == 2 && i < sizeof parts / sizeof *parts; i++)
         if (strcmp(argv[1], parts[i].name) == 0) {
