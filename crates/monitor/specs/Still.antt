@@ -1,4 +1,5 @@
--- The law of long pieces: "after `high` + 1 ticks of one piece no cell changes any more". All ticks of a piece but the first
+-- The law of long pieces: after high + 1 ticks of one piece no cell changes any more. It is no rule of document 01 but follows
+-- from its rules, and feeding and the best of a record repeat the last report by it. All ticks of a piece but the first
 -- are alike, and a cell of length n holds what the last n ticks made of the empty runs, whatever the table held before. The
 -- proofs are in proofs/Still.antt.
 use Prim.Native.Nat.{ℕ, _+_}

@@ -20,7 +20,7 @@ use Rattle.table.specs.declared.report.Report.{Report}
 use Rattle.steps.specs.Steps.{edgeIn}
 use Rattle.table.specs.Moves.{cellAt, each, gainAt}
 
--- No run: "score 0 and length 0".
+-- No run: "length 0 with score 0 means no run".
 abbrev pub noReport : Report
 noReport = record { score = pos 0; length = 0 }
 

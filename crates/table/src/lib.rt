@@ -39,7 +39,8 @@ ghost use Rattle.pattern.specs.Clocks.{guardsHold, afterResets};
 ghost use Rattle.steps.specs.Steps.{StepOf};
 ghost use Rattle.table.specs.Moves.{cellAt, marked, cleared, offered, still, moved, leavesOf, stayOf, sentOf, visitsOf};
 ghost use Rattle.table.specs.Moves.{passOf, gainIn, placeOf, placesOf, rowOf, rowsOf, startsOf, begun, tickOf, openOf};
-ghost use Rattle.table.specs.Reports.{toldMove, toldLeaves, toldVisits, toldPass, toldPlace, toldPlaces, tellsAt, toldRow, toldOf};
+ghost use Rattle.table.specs.Reports.{toldMove, toldLeaves, toldVisits, toldPass, toldPlace, toldPlaces, tellsAt};
+ghost use Rattle.table.specs.Reports.{toldRow, toldOf};
 ghost use Rattle.table.specs.Asks.{Known, Ticking, Filed, Sourced, Linked, Routed, Edges, Moving, Passing, Placing};
 ghost use Rattle.table.specs.Asks.{Ready, Rows, Occupied, Staying, flagAt, Block, Flagged, FlagOf, Marked, Raised};
 
