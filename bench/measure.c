@@ -196,14 +196,14 @@ static double occupied(const struct pattern *p, const int64_t *table)
 /* The least time of each monitor, and what the library's rounds were like. */
 struct timing {
     double least[MONITORS];
-    double greatest; /* of the library */
-    double spent;    /* by all rounds of all monitors */
+    double quickest, slowest; /* of the library's rounds */
+    double spent;             /* by all rounds of all monitors */
     int rounds;
 };
 
 static struct timing new_timing(void)
 {
-    struct timing t = {{1e9, 1e9, 1e9}, 0, 0, 0};
+    struct timing t = {{1e9, 1e9, 1e9}, 1e9, 0, 0, 0};
     return t;
 }
 
@@ -214,8 +214,10 @@ static void count_time(struct timing *t, int monitor, double took)
         t->least[monitor] = took;
     if (monitor == LIBRARY) {
         t->rounds++;
-        if (took > t->greatest)
-            t->greatest = took;
+        if (took < t->quickest)
+            t->quickest = took;
+        if (took > t->slowest)
+            t->slowest = took;
     }
 }
 
@@ -239,37 +241,74 @@ static void print_times(const char *kind, const char *name, size_t varied, size_
     printf("%s\t%s\t%zu\t%zu\t%zu\t%zu\t%.1f\t%zu", kind, name, varied, entries, ticks, p->cells, full, ends);
     for (int m = 0; m < MONITORS; m++)
         printf("\t%.9f", t->least[m]);
-    printf("\t%d\t%.3f\n", t->rounds, t->greatest / t->least[LIBRARY]);
+    printf("\t%d\t%.3f\n", t->rounds, t->slowest / t->quickest);
     fflush(stdout);
 }
 
+/* The least time of each part of a record by each monitor, over all rounds. */
+struct parts {
+    size_t count;
+    double *least[MONITORS];
+};
+
+static struct parts new_parts(size_t entries)
+{
+    struct parts parts = {(entries + PART - 1) / PART, {NULL}};
+
+    for (int m = 0; m < MONITORS; m++) {
+        parts.least[m] = memory(parts.count * sizeof *parts.least[m]);
+        for (size_t i = 0; i < parts.count; i++)
+            parts.least[m][i] = 1e9;
+    }
+    return parts;
+}
+
+static void free_parts(struct parts *parts)
+{
+    for (int m = 0; m < MONITORS; m++)
+        free(parts->least[m]);
+}
+
+/* The time of a record's first `entries` entries: that of their parts, which are whole. */
+static void sum_parts(struct timing *t, const struct parts *parts, size_t entries)
+{
+    for (int m = 0; m < MONITORS; m++) {
+        t->least[m] = 0;
+        for (size_t i = 0; i * PART < entries; i++)
+            t->least[m] += parts->least[m][i];
+    }
+}
+
 /* A round of a whole record. The monitors take turns, part by part, so that a change of the machine's clock meets all. */
-static void record_round(struct timing *t, const char *name, const struct pattern *p, struct lent *lent,
-                         const struct record *r)
+static void record_round(struct timing *t, struct parts *parts, const char *name, const struct pattern *p,
+                         struct lent *lent, const struct record *r)
 {
     uint32_t answers[MONITORS];
-    double took[MONITORS] = {0};
+    double round[MONITORS] = {0};
     size_t at = 0;
 
-    for (size_t from = 0; from < r->entries; from += PART) {
-        size_t to = from + PART < r->entries ? from + PART : r->entries, next = at;
+    for (size_t i = 0; i < parts->count; i++) {
+        size_t from = i * PART, to = from + PART < r->entries ? from + PART : r->entries, next = at;
 
         for (int m = 0; m < MONITORS; m++) {
-            double start = now();
+            double start = now(), took;
 
             if (from == 0)
                 answers[m] = open_by(m, p, &lent[m]);
             next = at;
-            for (size_t i = from; i < to && answers[m] == CALL_DONE; i++) {
-                answers[m] = feed_by(m, p, &lent[m], r->durations[i], r->values + i * r->channels, next);
-                next += r->durations[i];
+            for (size_t k = from; k < to && answers[m] == CALL_DONE; k++) {
+                answers[m] = feed_by(m, p, &lent[m], r->durations[k], r->values + k * r->channels, next);
+                next += r->durations[k];
             }
-            took[m] += now() - start;
+            took = now() - start;
+            round[m] += took;
+            if (took < parts->least[m][i])
+                parts->least[m][i] = took;
         }
         at = next;
     }
     for (int m = 0; m < MONITORS; m++) {
-        count_time(t, m, took[m]);
+        count_time(t, m, round[m]);
         compare(name, m, p, &lent[m], &lent[LIBRARY], answers[m], answers[LIBRARY]);
     }
 }
@@ -278,45 +317,45 @@ static void time_record(const char *kind, const char *name, size_t varied, const
 {
     struct pattern *p = new_pattern(text);
     struct timing t = new_timing();
+    struct parts parts = new_parts(r->entries);
     struct lent lent[MONITORS];
 
     for (int m = 0; m < MONITORS; m++)
         lent[m] = new_lent(p, r->ticks);
     while (goes_on(&t, 1))
-        record_round(&t, name, p, lent, r);
+        record_round(&t, &parts, name, p, lent, r);
+    sum_parts(&t, &parts, r->entries);
     print_times(kind, name, varied, r->entries, r->ticks, p, occupied(p, lent[LIBRARY].first), &lent[LIBRARY], &t);
     for (int m = 0; m < MONITORS; m++)
         free_lent(&lent[m]);
+    free_parts(&parts);
     free(p);
 }
 
-/* Parts of a record from its beginning on, the shorter ones more often, all of them in turn in each of three rounds: what
- * is asked is how their times compare. */
+/* A record's beginnings of several lengths. The first n entries of a record are the record of n entries, so five rounds of the
+ * whole record time them all: each part of each length has as many rounds as any other. */
 static void time_lengths(const char *name, size_t high, const char *text, const struct record *r)
 {
     static const size_t entries[] = {600, 2000, 6000, 20000, 60000};
-    static const int times[] = {10, 5, 2, 1, 1};
-    enum { LENGTHS = sizeof entries / sizeof *entries };
     struct pattern *p = new_pattern(text);
-    struct timing t[LENGTHS];
+    struct timing t = new_timing();
+    struct parts parts = new_parts(r->entries);
     struct lent lent[MONITORS];
-    struct record part = *r;
 
-    for (int i = 0; i < LENGTHS; i++)
-        t[i] = new_timing();
     for (int m = 0; m < MONITORS; m++)
         lent[m] = new_lent(p, r->ticks);
-    for (int round = 0; round < 3; round++)
-        for (int i = 0; i < LENGTHS; i++)
-            for (int n = 0; n < times[i]; n++) {
-                part.entries = part.ticks = entries[i];
-                record_round(&t[i], name, p, lent, &part);
-            }
-    for (int i = 0; i < LENGTHS; i++) /* the whole record comes last, so the table is that of its end */
-        print_times(entries[i] == r->entries ? "record" : "length", name, entries[i] == r->entries ? high : entries[i],
-                    entries[i], entries[i], p, occupied(p, lent[LIBRARY].first), &lent[LIBRARY], &t[i]);
+    for (int round = 0; round < 5; round++)
+        record_round(&t, &parts, name, p, lent, r);
+    for (size_t i = 0; i < sizeof entries / sizeof *entries; i++) {
+        int whole = entries[i] == r->entries;
+
+        sum_parts(&t, &parts, entries[i]);
+        print_times(whole ? "record" : "length", name, whole ? high : entries[i], entries[i], entries[i], p,
+                    occupied(p, lent[LIBRARY].first), &lent[LIBRARY], &t);
+    }
     for (int m = 0; m < MONITORS; m++)
         free_lent(&lent[m]);
+    free_parts(&parts);
     free(p);
 }
 
@@ -684,7 +723,7 @@ static void time_longest(const char *name, size_t high, const char *text, const 
     }
     check_best(name, GCC, p, &plain, &l, plain_best, best);
     printf("longest\t%s\t%zu\t%zu\t%zu\t%zu\t%.9f\t%d\t%.3f\n", name, high, r->entries, r->ticks, p->cells,
-           t.least[LIBRARY], t.rounds, t.greatest / t.least[LIBRARY]);
+           t.least[LIBRARY], t.rounds, t.slowest / t.quickest);
     fflush(stdout);
     free(short_one.durations);
     free_lent(&l);
@@ -1004,7 +1043,7 @@ static void second_case(const char *scorer, const char *directory, const char *n
         exit(1);
     }
     printf("second\t%s\t%zu\t%zu\t%zu\t%zu\t%.9f\t%d\t%.3f\t%.9f\t%ld\n", name, high, r->entries, r->ticks, p->cells,
-           t.least[LIBRARY], t.rounds, t.greatest / t.least[LIBRARY], of_scorer, kib);
+           t.least[LIBRARY], t.rounds, t.slowest / t.quickest, of_scorer, kib);
     fflush(stdout);
     fclose(output);
     free(expected);
