@@ -11,7 +11,7 @@ use lib.Dec.{T, eqb, leb, ltb}
 use lib.ListN.{length, take, getD, length-take}
 use lib.Seq.{getD-take}
 use lib.IntN.{ℤ}
-use Rattle.integers.proofs.Tests.{T-true, true-T}
+use Rattle.integers.proofs.Tests.{T-true, true-T, both-true}
 use Rattle.weighting.specs.Weighting.{combineAll}
 use Rattle.weighting.specs.Weightings.{weightingOf}
 use Rattle.pattern.specs.declared.Edge.{Edge}
@@ -34,10 +34,6 @@ use Rattle.book.specs.PricedRun.{PricedRun}
 use Rattle.book.specs.Claims.{PricedAreRuns}
 use Rattle.book.proofs.Members.{at-member, member-at}
 use Rattle.book.proofs.StayGains.{stay-together}
-
-and-in : (a b : Bool) → a ≡ true → b ≡ true → a && b ≡ true
-and-in true b p q = q
-and-in false b p q = p
 
 -- ---- clocks: n ticks one by one are n ticks at once
 
@@ -117,7 +113,7 @@ module _ (p : Pattern) (sound : soundOf p ≡ true) where
       → canStep p k cs (record { edge = i; stay = n }) ≡ true
   unfolding canStep
   can k cs i n known fits stays guarded =
-      and-in _ _ (and-in _ _ (and-in _ _ (lt-ltb _ _ known) (eq-eqb _ _ fits)) (le-leb _ _ stays)) (T-true _ guarded)
+      both-true _ _ (both-true _ _ (both-true _ _ (lt-ltb _ _ known) (eq-eqb _ _ fits)) (le-leb _ _ stays)) (T-true _ guarded)
 
   pub step-of : (k : ℕ) (cs : Clocks) (y : walk.Step Edge) → Leg (automatonOf p) k cs y → (x : Step) × (plain x ≡ y) × (canStep p k cs x ≡ true)
   step-of k cs y l =
@@ -145,7 +141,7 @@ module _ (p : Pattern) (sound : soundOf p ≡ true) where
   from-goes k cs (y ∷ ys) g =
       let n = step-of k cs y (g .0) in
       let r = from-goes (y .edge .to) (afterResets (y .edge) (after (automatonOf p) (y .stay) cs)) ys (g .1) in
-      (n .0 ∷ r .0, (λ z. n .1 z ∷ r .1 z), and-in _ _ (n .2) (onward cs (n .0) y (r .0) (n .1) (r .2)))
+      (n .0 ∷ r .0, (λ z. n .1 z ∷ r .1 z), both-true _ _ (n .2) (onward cs (n .0) y (r .0) (n .1) (r .2)))
 
   -- ---- runs
 
@@ -171,7 +167,7 @@ module _ (p : Pattern) (sound : soundOf p ≡ true) where
 
   price-of : (b : Book) (begin : ℕ) (xs : List Step) → isRun p xs ≡ true → begin + lengthOf xs ≤ length b → priceOf p b begin xs ≡ some (runWorth p b begin xs)
   unfolding priceOf
-  price-of b begin xs r h = rw (and-in _ _ r (le-leb _ _ h))
+  price-of b begin xs r h = rw (both-true _ _ r (le-leb _ _ h))
 
   is-run : (k : ℕ) (xs : List Step) → T (walk.nonEmpty (map plain xs)) → kinds.isStart (placeAt p k .kind) ≡ true → goes p k zeroClocks xs ≡ true → isRun p xs ≡ true
   unfolding isRun goes canStep
@@ -181,7 +177,7 @@ module _ (p : Pattern) (sound : soundOf p ≡ true) where
       let f : edgeAt p (x .edge) .from ≡ k = leg k zeroClocks x (a .0) .fits in
       let starts : kinds.isStart (placeAt p (edgeAt p (x .edge) .from) .kind) ≡ true = rw f s in
       let going : goes p (edgeAt p (x .edge) .from) zeroClocks (x ∷ xs) ≡ true = subst (λ (n : ℕ). goes p n zeroClocks (x ∷ xs) ≡ true) (sym f) g in
-      and-in _ _ starts going
+      both-true _ _ starts going
 
   priced-of : (b : Book) (begin end len : ℕ) (w : ℤ) → end ≤ length b
       → Run (weightingOf (p .weighing)) (automatonOf p) (viewOf p b) begin end len w → PricedRun p b begin end len w

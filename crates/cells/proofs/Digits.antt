@@ -6,9 +6,10 @@ use mathlib.Core.Path.{_≡_, refl, sym, ap, _∙_}
 use mathlib.Core.List.{List, [], _∷_, zipWith}
 use mathlib.Core.Bool.{Bool, true, false, cond}
 use lib.Arith.{digits-lt, digits-div, digits-mod}
-use lib.ListN.{length, getD}
+use lib.ListN.{length, length-map, getD}
 use Rattle.pattern.specs.declared.Edge.{Edge}
 use Rattle.pattern.specs.Clocks.{Clocks, later, afterResets}
+use Rattle.pattern.proofs.ListLaws.{length-zip}
 use Rattle.cells.specs.declared.Layout.{Layout}
 use Rattle.cells.specs.Layout.{Laid}
 use Rattle.cells.specs.Index.{codeOf, clocksAt, held, ticked, Within}
@@ -43,6 +44,12 @@ ticked-within l cs h =
       in2 = held-lt (l .radices) (later 1 cs) 2 (h .some2);
       in3 = held-lt (l .radices) (later 1 cs) 3 (h .some3);
     }
+
+pub ticked-long : (l : Layout) (cs : Clocks) → Laid l → length cs ≡ 4 → length (ticked (l .radices) cs) ≡ 4
+unfolding ticked held
+ticked-long l cs h e =
+    let later-long : length (later 1 cs) ≡ 4 = length-map cs _ ∙ e in
+    length-zip _ (l .radices) (later 1 cs) (h .four ∙ sym later-long) ∙ later-long
 
 pub reset-within : (rs : List ℕ) (e : Edge) (cs : Clocks) → Within rs cs → Within rs (afterResets e cs)
 reset-within rs e cs w =

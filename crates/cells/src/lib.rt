@@ -13,7 +13,7 @@ ghost use Rattle.cells.specs.Index.{codeOf, clocksAt, ticked, Within, bl
 pub struct Layout {
     pub high: usize,
     pub places: usize,
-    pub radices: [u32; 4],
+    pub radices: [usize; 4],
     pub block: usize,
     pub row: usize,
 }
@@ -29,7 +29,7 @@ pub fn layout_of(p: Pattern, longest: u16) -> Layout
     let d = radix(p, 3);
     let places = p.placecount as usize;
     let block = (a * b * c * d) as usize;
-    let radices = [a as u32, b as u32, c as u32, d as u32];
+    let radices = [a as usize, b as usize, c as usize, d as usize];
     Layout {
         high: longest as usize,
         places: places,
@@ -40,7 +40,7 @@ pub fn layout_of(p: Pattern, longest: u16) -> Layout
 }
 
 // A clock one tick later, held at its ceiling.
-pub fn tick_clock(radix: u32, clock: u32) -> u32
+pub fn tick_clock(radix: usize, clock: usize) -> usize
     requires { ⌜ 0 < radix ⌝ }
     ensures { λ r. ⌜ r ≡ min (clock + 1) (radix - 1) ⌝ }
 {
@@ -49,7 +49,7 @@ pub fn tick_clock(radix: u32, clock: u32) -> u32
 }
 
 // All clocks one tick later.
-pub fn tick_clocks(l: Layout, clocks: [u32; 4]) -> [u32; 4]
+pub fn tick_clocks(l: Layout, clocks: [usize; 4]) -> [usize; 4]
     requires { ⌜ Laid l ⌝ }
     ensures { λ r. ⌜ r ≡ ticked (l .radices) clocks ⌝ }
 {
@@ -61,7 +61,7 @@ pub fn tick_clocks(l: Layout, clocks: [u32; 4]) -> [u32; 4]
 }
 
 // The clocks of the next cell of a block, from those of cell k: no division.
-fn next_clocks(l: Layout, clocks: [u32; 4], k: usize) -> [u32; 4]
+fn next_clocks(l: Layout, clocks: [usize; 4], k: usize) -> [usize; 4]
     requires { ⌜ (Laid l) × (k < l .block) × (clocks ≡ clocksAt (l .radices) k) ⌝ }
     ensures { λ r. ⌜ r ≡ clocksAt (l .radices) (k + 1) ⌝ }
 {
@@ -81,21 +81,21 @@ fn next_clocks(l: Layout, clocks: [u32; 4], k: usize) -> [u32; 4]
 }
 
 // The clocks of cell k of a block.
-fn clocks_at(l: Layout, k: usize) -> [u32; 4]
+fn clocks_at(l: Layout, k: usize) -> [usize; 4]
     requires { ⌜ (Laid l) × (k < l .block) ⌝ }
     ensures { λ r. ⌜ r ≡ clocksAt (l .radices) k ⌝ }
 {
-    let s = l.radices[1] as usize;
-    let t = l.radices[2] as usize;
-    let u = l.radices[3] as usize;
+    let s = l.radices[1];
+    let t = l.radices[2];
+    let u = l.radices[3];
     let c = k / u;
     let b = c / t;
     let a = b / s;
-    [a as u32, (b % s) as u32, (c % t) as u32, (k % u) as u32]
+    [a, b % s, c % t, k % u]
 }
 
 // The clocks of cell `to` of a block, from those of cell k: a division only where cells were left out.
-pub fn clocks_to(l: Layout, clocks: [u32; 4], k: usize, to: usize) -> [u32; 4]
+pub fn clocks_to(l: Layout, clocks: [usize; 4], k: usize, to: usize) -> [usize; 4]
     requires { ⌜ (Laid l) × (k ≤ to) × (to < l .block) × (clocks ≡ clocksAt (l .radices) k) ⌝ }
     ensures { λ r. ⌜ r ≡ clocksAt (l .radices) to ⌝ }
 {
@@ -109,17 +109,17 @@ pub fn clocks_to(l: Layout, clocks: [u32; 4], k: usize, to: usize) -> [u32; 4]
 }
 
 // The cell of a block that has these clocks.
-pub fn code(l: Layout, clocks: [u32; 4]) -> usize
+pub fn code(l: Layout, clocks: [usize; 4]) -> usize
     requires { ⌜ (Laid l) × (Within (l .radices) clocks) ⌝ }
     ensures { λ r. ⌜ r ≡ codeOf (l .radices) clocks ⌝ }
 {
-    let a = clocks[0] as usize;
-    let b = clocks[1] as usize;
-    let c = clocks[2] as usize;
-    let d = clocks[3] as usize;
-    let s = l.radices[1] as usize;
-    let t = l.radices[2] as usize;
-    let u = l.radices[3] as usize;
+    let a = clocks[0];
+    let b = clocks[1];
+    let c = clocks[2];
+    let d = clocks[3];
+    let s = l.radices[1];
+    let t = l.radices[2];
+    let u = l.radices[3];
     ((a * s + b) * t + c) * u + d
 }
 

@@ -12,8 +12,8 @@ use monitor::State;
 use pattern::Pattern;
 use record::rules::least;
 use record::samples::same_sample;
-use table::clear;
-use table::raise;
+use table_tick::clear;
+use table_tick::raise;
 ghost use mathlib.Core.Path.{_≡_};
 ghost use mathlib.Core.Bool.{true, false, not};
 ghost use mathlib.Core.Option.{none};
@@ -74,7 +74,7 @@ fn open_both(p: Pattern, first: &mut [i64], second: &mut [i64])
     let l = layout_of(p, p.high);
     let w = p.weighing;
     let starts = kind_flags(false, p);
-    table::open(first, l, w, starts);
+    table_tick::open(first, l, w, starts);
     mark_all(p, second);
 }
 

@@ -9,7 +9,7 @@ use pattern::distance::place_worth;
 use pattern::is_end;
 use pattern::is_start;
 use table::View;
-use table::tick;
+use table_tick::tick;
 use weighting::Weighing;
 use weighting::unit;
 ghost use mathlib.Core.Path.{_≡_};

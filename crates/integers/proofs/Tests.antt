@@ -40,6 +40,10 @@ pub and-in : (a b : Bool) → T a → T b → T (a && b)
 and-in true b p q = q
 and-in false b p q = p
 
+pub both-true : (a b : Bool) → a ≡ true → b ≡ true → a && b ≡ true
+both-true true b p q = q
+both-true false b p q = p
+
 -- what holds of both choices, each under its outcome, holds of the choice
 pub by-cond : {A : Type 0} (P : A → Type 0) (t : Bool) (x y : A) → (T t → P x) → (T (not t) → P y) → P (cond t x y)
 by-cond P true x y f g = f tt

@@ -3,12 +3,13 @@
 use Prim.Native.Nat.{ℕ, zero, suc, _+_, _-_, _*_, _/_, _%_, _≤_, _<_, min, max}
 use native.Mathlib.Omega.{arith}
 use mathlib.Core.Path.{_≡_, refl, sym, ap, ap₂, subst, _∙_}
-use mathlib.Core.Bool.{Bool, true, false, cond, _&&_}
+use mathlib.Core.Bool.{Bool, true, false, cond, _&&_, and-true}
 use mathlib.Core.List.{List, [], _∷_, _++_, zipWith}
 use borrow.Author.Tests.{ltb-true, ltb-false, leb-true, leb-false, lt-ltb, le-ltb, le-leb, lt-leb, eq-eqb, ne-eqb, eqb-true, eqb-false}
 use lib.Dec.{eqb, leb, ltb}
 use lib.ListN.{length, getD, set, take}
 use lib.Seq.{getD-set-same, getD-set-other}
+use Rattle.integers.proofs.Tests.{both-true}
 use Rattle.pattern.specs.declared.Sign.{Sign}
 use Rattle.pattern.specs.declared.Sign.the-variants.{Less, AtMost, More, AtLeast}
 use Rattle.pattern.specs.declared.Guard.{Guard}
@@ -21,7 +22,8 @@ use Rattle.pattern.proofs.ListLaws.{take-in-use, take-more}
 use Rattle.pattern.proofs.SlotLaws.{all-snoc}
 use Rattle.pattern.proofs.SoundLaws.{both}
 use Rattle.steps.specs.declared.Span.{Span}
-use Rattle.steps.specs.Steps.{edgeIn, stepAt, inSpan, goesIn, keptBy, afterIn, Fit, StepOf, Steps, narrowed, narrowedOn, spanOf, numberOf}
+use Rattle.steps.specs.Steps.{edgeIn, stepAt, inSpan, goesIn, keptBy, afterIn, Fit, StepOf, Steps}
+use Rattle.steps.specs.Made.{narrowed, narrowedOn, spanOf, numberOf}
 
 pub span-more : (e : Edge) (k n : ℕ) → narrowedOn k (getD (e .guards) n noGuard) (spanOf e k n) ≡ spanOf e k (n + 1)
 unfolding spanOf
@@ -38,7 +40,7 @@ goes-is ss i cs a b c d ea eb ec ed =
     ap₂ _&&_ (ea ∙ ap (λ (x : ℕ). inSpan (getD ss x 0) (getD ss (i * 13 + 4) 0) (clockAt cs 0)) o)
     (ap₂ _&&_ (eb ∙ ap (λ (x : ℕ). inSpan (getD ss (i * 13 + 1) 0) (getD ss x 0) (clockAt cs 1)) p)
     (ap₂ _&&_ (ec ∙ ap (λ (x : ℕ). inSpan (getD ss (i * 13 + 2) 0) (getD ss x 0) (clockAt cs 2)) q)
-    (ed ∙ ap (λ (x : ℕ). inSpan (getD ss (i * 13 + 3) 0) (getD ss x 0) (clockAt cs 3)) r)))
+    (ed ∙ ap (λ (x : ℕ). inSpan (getD ss (i * 13 + 3) 0) (getD ss x 0) (clockAt cs 3)) r ∙ sym (and-true _))))
 
 -- ---- a span narrowed by a guard
 
@@ -48,19 +50,16 @@ same-test true b f g = sym (f refl)
 same-test false true f g = g refl
 same-test false false f g = refl
 
-and-in : (a b : Bool) → a ≡ true → b ≡ true → a && b ≡ true
-and-in a b p q = rw (p, q) refl
-
 lt-min : (x a b : ℕ) → ltb x (min a b) ≡ ltb x a && ltb x b
 lt-min x a b =
     same-test (ltb x (min a b)) (ltb x a && ltb x b)
-    (λ e. let h = ltb-true x (min a b) e in and-in (ltb x a) (ltb x b) (lt-ltb x a (omega arith)) (lt-ltb x b (omega arith)))
+    (λ e. let h = ltb-true x (min a b) e in both-true (ltb x a) (ltb x b) (lt-ltb x a (omega arith)) (lt-ltb x b (omega arith)))
     (λ e. let h = both (ltb x a) (ltb x b) e in let p = ltb-true x a (h .0) in let q = ltb-true x b (h .1) in lt-ltb x (min a b) (omega arith))
 
 max-le : (x a b : ℕ) → leb (max a b) x ≡ leb a x && leb b x
 max-le x a b =
     same-test (leb (max a b) x) (leb a x && leb b x)
-    (λ e. let h = leb-true (max a b) x e in and-in (leb a x) (leb b x) (le-leb a x (omega arith)) (le-leb b x (omega arith)))
+    (λ e. let h = leb-true (max a b) x e in both-true (leb a x) (leb b x) (le-leb a x (omega arith)) (le-leb b x (omega arith)))
     (λ e. let h = both (leb a x) (leb b x) e in let p = leb-true a x (h .0) in let q = leb-true b x (h .1) in le-leb (max a b) x (omega arith))
 
 lt-next : (x b : ℕ) → ltb x (b + 1) ≡ leb x b
@@ -79,12 +78,8 @@ and-last : (a b c : Bool) → a && (b && c) ≡ (a && b) && c
 and-last true b c = refl
 and-last false b c = refl
 
-and-true : (a : Bool) → a ≡ a && true
-and-true true = refl
-and-true false = refl
-
 and-swap : (a b c : Bool) → (a && c) && b ≡ (a && b) && c
-and-swap true true c = sym (and-true c)
+and-swap true true c = and-true c
 and-swap true false true = refl
 and-swap true false false = refl
 and-swap false b c = refl
@@ -104,12 +99,12 @@ on-in k x g s = by (eqb (g .clock) k)
   where
     by : (t : Bool) → inSpan (cond t (narrowed s (g .sign) (g .bound)) s .low) (cond t (narrowed s (g .sign) (g .bound)) s .upto) x ≡ inSpan (s .low) (s .upto) x && cond t (onSide (g .sign) x (g .bound)) true
     by true = narrowed-in s (g .sign) (g .bound) x
-    by false = and-true _
+    by false = sym (and-true _)
 
 -- the span that n guards leave has the values that they ask for
 span-in : (e : Edge) (k x n : ℕ) → x < 65536 → n ≤ length (e .guards) → inSpan (spanOf e k n .low) (spanOf e k n .upto) x ≡ all (guardOn k x) (take n (e .guards))
 unfolding spanOf
-span-in e k x zero small few = and-in (leb 0 x) (ltb x 65536) (le-leb 0 x (omega arith)) (lt-ltb x 65536 small)
+span-in e k x zero small few = both-true (leb 0 x) (ltb x 65536) (le-leb 0 x (omega arith)) (lt-ltb x 65536 small)
 span-in e k x (suc n) small few =
     let up : n + 1 ≡ suc n = omega arith in
     on-in k x (getD (e .guards) n noGuard) (spanOf e k n)
@@ -187,7 +182,7 @@ numbers-step e ss i fit is =
           ap₂ _&&_ (ap₂ (λ (a b : ℕ). inSpan a b (clockAt cs 0)) (is 0 (omega arith)) (is 4 (omega arith)) ∙ span-in e 0 (clockAt cs 0) n (small 0 (omega arith)) few)
           (ap₂ _&&_ (ap₂ (λ (a b : ℕ). inSpan a b (clockAt cs 1)) (is 1 (omega arith)) (is 5 (omega arith)) ∙ span-in e 1 (clockAt cs 1) n (small 1 (omega arith)) few)
           (ap₂ _&&_ (ap₂ (λ (a b : ℕ). inSpan a b (clockAt cs 2)) (is 2 (omega arith)) (is 6 (omega arith)) ∙ span-in e 2 (clockAt cs 2) n (small 2 (omega arith)) few)
-          (ap₂ (λ (a b : ℕ). inSpan a b (clockAt cs 3)) (is 3 (omega arith)) (is 7 (omega arith)) ∙ span-in e 3 (clockAt cs 3) n (small 3 (omega arith)) few)))
+          (and-true _ ∙ ap₂ (λ (a b : ℕ). inSpan a b (clockAt cs 3)) (is 3 (omega arith)) (is 7 (omega arith)) ∙ span-in e 3 (clockAt cs 3) n (small 3 (omega arith)) few)))
           ∙ ap (λ (gs : List Guard). on cs 0 gs && (on cs 1 gs && (on cs 2 gs && on cs 3 gs))) (take-in-use (e .count) 4 (e .guards) (fit .guards))
           ∙ four-clocks cs (guardsOf e) (fit .clocks);
       after = λ cs four.

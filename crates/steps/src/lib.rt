@@ -9,28 +9,28 @@ ghost use Prim.Native.Nat.{ℕ, _+_, _≤_, _<_, min, max};
 ghost use lib.Dec.{eqb};
 ghost use lib.ListN.{getD};
 ghost use Rattle.steps.specs.Steps.{stepAt, inSpan, goesIn, keptBy, afterIn, edgeIn, Fit, Steps};
-ghost use Rattle.steps.specs.Steps.{narrowed, narrowedOn, spanOf, numberOf};
+ghost use Rattle.steps.specs.Made.{narrowed, narrowedOn, spanOf, numberOf};
 
 // The values that guards leave a clock: from `low` to below `upto`.
 struct Span {
-    low: u32,
-    upto: u32,
+    low: usize,
+    upto: usize,
 }
 
-fn lesser(a: u32, b: u32) -> u32
+fn lesser(a: usize, b: usize) -> usize
     ensures { λ r. ⌜ r ≡ min a b ⌝ }
 {
     if a < b { a } else { b }
 }
 
-fn greater(a: u32, b: u32) -> u32
+fn greater(a: usize, b: usize) -> usize
     ensures { λ r. ⌜ r ≡ max a b ⌝ }
 {
     if a < b { b } else { a }
 }
 
 // What a guard leaves of a span.
-fn narrow(s: Span, sign: Sign, bound: u32) -> Span
+fn narrow(s: Span, sign: Sign, bound: usize) -> Span
     requires { ⌜ bound < 65536 ⌝ }
     ensures { λ r. ⌜ r ≡ narrowed s sign bound ⌝ }
 {
@@ -62,7 +62,7 @@ fn narrow_on(s: Span, g: Guard, clock: u8) -> Span
 {
     let sign = g.sign;
     if g.clock == clock {
-        narrow(s, sign, g.bound as u32)
+        narrow(s, sign, g.bound as usize)
     } else {
         s
     }
@@ -86,14 +86,14 @@ fn span_of(e: Edge, clock: u8) -> Span
     s
 }
 
-fn one_if(b: bool) -> u32
+fn one_if(b: bool) -> usize
     ensures { λ r. ⌜ r ≡ cond b 1 0 ⌝ }
 {
     if b { 1 } else { 0 }
 }
 
 // Number j of an edge.
-fn number_of(e: Edge, j: usize) -> u32
+fn number_of(e: Edge, j: usize) -> usize
     ensures { λ r. ⌜ r ≡ numberOf e j ⌝ }
 {
     if j < 4 {
@@ -107,15 +107,15 @@ fn number_of(e: Edge, j: usize) -> u32
     if j < 12 {
         return one_if(e.resets[j - 8]);
     }
-    e.to as u32
+    e.to as usize
 }
 
 // The steps of the first `count` edges.
-pub fn steps_of(edges: [Edge; 32], count: usize) -> [u32; 416]
+pub fn steps_of(edges: [Edge; 32], count: usize) -> [usize; 416]
     requires { ⌜ (count ≤ 32) × ((i : ℕ) → i < count → Fit (edgeIn edges i)) ⌝ }
     ensures { λ r. ⌜ Steps edges count r ⌝ }
 {
-    let mut steps: [u32; 416] = [0; 416];
+    let mut steps: [usize; 416] = [0; 416];
     let n = count * 13;
     let mut k: usize = 0;
     while k < n {
@@ -127,7 +127,7 @@ pub fn steps_of(edges: [Edge; 32], count: usize) -> [u32; 416]
 }
 
 // Is the clock's value in the span whose numbers are at `at` and four further on?
-fn in_span(steps: &[u32; 416], at: usize, clock: u32) -> bool
+fn in_span(steps: &[usize; 416], at: usize, clock: usize) -> bool
     requires { ⌜ at + 4 < 416 ⌝ }
     ensures { λ r. ⌜ r ≡ inSpan (getD (now (steps .entry)) at 0) (getD (now (steps .entry)) (at + 4) 0) clock ⌝ }
 {
@@ -137,7 +137,7 @@ fn in_span(steps: &[u32; 416], at: usize, clock: u32) -> bool
 }
 
 // Whether step i can be taken.
-pub fn goes(steps: &[u32; 416], i: usize, clocks: [u32; 4]) -> bool
+pub fn goes(steps: &[usize; 416], i: usize, clocks: [usize; 4]) -> bool
     requires { ⌜ i < 32 ⌝ }
     ensures { λ r. ⌜ r ≡ goesIn (now (steps .entry)) i clocks ⌝ }
 {
@@ -149,14 +149,14 @@ pub fn goes(steps: &[u32; 416], i: usize, clocks: [u32; 4]) -> bool
     a & (b & (c & d))
 }
 
-fn kept_by(reset: u32, value: u32) -> u32
+fn kept_by(reset: usize, value: usize) -> usize
     ensures { λ r. ⌜ r ≡ keptBy reset value ⌝ }
 {
     if reset == 0 { value } else { 0 }
 }
 
 // The clocks once those that step i resets are 0.
-pub fn after(steps: &[u32; 416], i: usize, clocks: [u32; 4]) -> [u32; 4]
+pub fn after(steps: &[usize; 416], i: usize, clocks: [usize; 4]) -> [usize; 4]
     requires { ⌜ i < 32 ⌝ }
     ensures { λ r. ⌜ r ≡ afterIn (now (steps .entry)) i clocks ⌝ }
 {
@@ -169,7 +169,7 @@ pub fn after(steps: &[u32; 416], i: usize, clocks: [u32; 4]) -> [u32; 4]
 }
 
 // Where step i leads.
-pub fn leads_to(steps: &[u32; 416], i: usize) -> u32
+pub fn leads_to(steps: &[usize; 416], i: usize) -> usize
     requires { ⌜ i < 32 ⌝ }
     ensures { λ r. ⌜ r ≡ stepAt (now (steps .entry)) i 12 ⌝ }
 {

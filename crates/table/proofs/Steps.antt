@@ -5,7 +5,7 @@ use native.Mathlib.Numerals.{add-one}
 use native.Mathlib.Nat.{mul-le-mul-right, suc-mul, mul-zero, zero-add, div-add-mod', mod-lt, div-lt-iff-lt-mul}
 use mathlib.Core.Path.{_≡_, refl, sym, ap, _∙_}
 use mathlib.Core.Bool.{Bool, true, false, cond}
-use mathlib.Core.List.{List}
+use mathlib.Core.List.{List, zipWith}
 use mathlib.Core.Logic.{inl, inr}
 use borrow.Author.Tests.{eq-eqb, ne-eqb, eqb-true, eqb-false, ltb-true, ltb-false}
 use lib.Dec.{eqb, ltb}
@@ -23,7 +23,7 @@ use Rattle.pattern.specs.Clocks.{Clocks, clockAt, guardsHold, afterResets}
 use Rattle.cells.specs.declared.Layout.{Layout}
 use Rattle.cells.specs.Layout.{Laid, cellsIn}
 use Rattle.cells.specs.Index.{codeOf, clocksAt, ticked, Within, blockAt}
-use Rattle.cells.proofs.Digits.{ticked-within, coded, block-some}
+use Rattle.cells.proofs.Digits.{four-is, ticked-within, coded, block-some}
 use Rattle.cells.proofs.Blocks.{row-next, row-fits, block-low, block-in}
 use Rattle.table.specs.declared.View.{View}
 use Rattle.table.specs.declared.Sent.{Sent}
@@ -108,6 +108,15 @@ small-clocks l cs laid w k low = by (eqb k 0) refl (eqb k 1) refl (eqb k 2) refl
         let x = w .in3 in
         let y = laid .low 3 in
         rw q (omega arith)
+
+-- staying asks nothing and resets nothing
+pub still-goes : (p : ℕ) (cs : Clocks) → guardsHold cs (still p) ≡ true
+unfolding guardsHold
+still-goes p cs = refl
+
+pub still-resets : (p : ℕ) (cs : Clocks) → length cs ≡ 4 → afterResets (still p) cs ≡ cs
+unfolding afterResets zipWith
+still-resets p cs four = ap (afterResets (still p)) (four-is cs four) ∙ sym (four-is cs four)
 
 pub grown-fits : (w : Weighing) (v g : ℤ) → natAbs v ≤ 2 ^ 60 → natAbs g ≤ 8000000 → SFits w64 (weightingOf w .combine v g)
 grown-fits w v g a b = combine-fits w v g (omega arith)

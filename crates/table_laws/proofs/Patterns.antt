@@ -27,7 +27,7 @@ use Rattle.pattern.proofs.ListLaws.{length-zip}
 use Rattle.cells.specs.Layout.{layoutOf, Laid}
 use Rattle.cells.specs.Index.{ticked}
 use Rattle.cells.specs.Index as index
-use Rattle.cells.proofs.Digits.{ticked-within, reset-within}
+use Rattle.cells.proofs.Digits.{ticked-within, ticked-long, reset-within}
 use Rattle.cells.proofs.Layouts.{layout-laid}
 use Rattle.walks.specs.Automaton.{State, entering}
 use Rattle.walks.specs.Walks.{Move, stays, takes}
@@ -35,7 +35,7 @@ use Rattle.book.specs.Automaton.{held, heldAutomaton}
 use Rattle.book.proofs.Members.{all-member, at-member}
 use Rattle.steps.specs.Steps.{edgeIn, Fit}
 use Rattle.table_laws.specs.Patterns.{AboutPattern, KnownPattern, ClosedPattern}
-use Rattle.table_laws.proofs.States.{Cell, seen-in, in-seen, ticked-four-long, edge-in, in-edges}
+use Rattle.table_laws.proofs.States.{Cell, seen-in, in-seen, edge-in, in-edges}
 
 -- ---- edges in use are sound
 
@@ -169,7 +169,7 @@ module _ (p : Pattern) (h : soundOf p ≡ true) (longest : ℕ) (laid : Laid (la
 
   tick-cell : (cs : Clocks) → length cs ≡ 4 → index.Within (layoutOf p longest .radices) (held p (later 1 cs)) × (length (held p (later 1 cs)) ≡ 4)
   tick-cell cs four =
-      rw (tick-same p longest cs) (ticked-within (layoutOf p longest) cs laid, ticked-four-long (layoutOf p longest) cs laid four)
+      rw (tick-same p longest cs) (ticked-within (layoutOf p longest) cs laid, ticked-long (layoutOf p longest) cs laid four)
 
   move-cell : (s x : State Clocks) → Cell (layoutOf p longest) s → Move (heldAutomaton p) longest s x → Cell (layoutOf p longest) x
   unfolding layoutOf

@@ -4,23 +4,22 @@ use native.Mathlib.Omega.{arith}
 use mathlib.Core.Path.{_≡_, refl, sym, ap, subst, _∙_}
 use mathlib.Core.Bool.{Bool, true, false}
 use mathlib.Core.Logic.{_⊎_, ⊎-elim}
-use mathlib.Core.List.{List, [], _∷_, _++_, map, zipWith, List·Memᴰ, List·Memᴰ·head, List·Memᴰ·tail, List·Memᴰ·cases-cons, List·Memᴰ·not-nil, List·Memᴰ·append-cases, List·Memᴰ·eq-of-singleton, Memᴰ·append-left, Memᴰ·append-right}
+use mathlib.Core.List.{List, [], _∷_, _++_, map, List·Memᴰ, List·Memᴰ·head, List·Memᴰ·tail, List·Memᴰ·cases-cons, List·Memᴰ·not-nil, List·Memᴰ·append-cases, List·Memᴰ·eq-of-singleton, Memᴰ·append-left, Memᴰ·append-right}
 use borrow.Author.Tests.{ltb-true, ltb-false}
 use lib.Dec.{eqb, ltb}
-use lib.ListN.{length, length-map, take}
+use lib.ListN.{length, take}
 use Rattle.pattern.specs.declared.Edge.{Edge}
-use Rattle.pattern.specs.Clocks.{Clocks, afterResets}
-use Rattle.pattern.proofs.ListLaws.{length-zip}
+use Rattle.pattern.specs.Clocks.{Clocks}
 use Rattle.cells.specs.declared.Layout.{Layout}
 use Rattle.cells.specs.Layout.{Laid, cellsIn}
-use Rattle.cells.specs.Index.{clocksAt, held, ticked, Within, indexOf, lenAt, stageAt, placeAt, cellClocks, Placed}
+use Rattle.cells.specs.Index.{clocksAt, Within, indexOf, lenAt, stageAt, placeAt, cellClocks, Placed}
 use Rattle.cells.proofs.Blocks.{found, at}
 use lib.IntN.{ℤ}
 use Rattle.weighting.specs.Cell.{heldIn}
 use Rattle.walks.specs.Automaton.{State}
 use Rattle.walks.specs.Tables.{Table}
 use Rattle.steps.specs.Steps.{edgeIn}
-use Rattle.table.specs.Moves.{cellAt, still}
+use Rattle.table.specs.Moves.{cellAt}
 use Rattle.table_laws.specs.Offers.{stageOf}
 use Rattle.table_laws.specs.Meaning.{stateAt, indexAt, upTo, statesOf, tableOf, Seen}
 use Rattle.table_laws.specs.Claims.{TableIsSeen}
@@ -103,25 +102,6 @@ module _ (l : Layout) (laid : Laid l) where
   in-map f b [] m = absurd (List·Memᴰ·not-nil m)
   in-map f b (x ∷ xs) m =
       ⊎-elim (λ e. (x, List·Memᴰ·head refl, e)) (λ n. let r = in-map f b xs n in (r .0, List·Memᴰ·tail (r .1), r .2)) (List·Memᴰ·cases-cons m)
-
--- ---- clocks
-
-zip-four : {A B C : Type 0} (f : A → B → C) (xs : List A) (ys : List B) → length xs ≡ 4 → length ys ≡ 4 → length (zipWith f xs ys) ≡ 4
-zip-four f xs ys e g = length-zip f xs ys (e ∙ sym g) ∙ g
-
-pub ticked-four-long : (l : Layout) (cs : Clocks) → Laid l → length cs ≡ 4 → length (ticked (l .radices) cs) ≡ 4
-unfolding ticked held
-ticked-four-long l cs h e = zip-four _ (l .radices) _ (h .four) (length-map cs _ ∙ e)
-
--- staying resets nothing
-pub still-resets : (p : ℕ) (cs : Clocks) → length cs ≡ 4 → afterResets (still p) cs ≡ cs
-unfolding afterResets zipWith
-still-resets p [] e = absurd (omega arith)
-still-resets p (a ∷ []) e = absurd (omega arith)
-still-resets p (a ∷ b ∷ []) e = absurd (omega arith)
-still-resets p (a ∷ b ∷ c ∷ []) e = absurd (omega arith)
-still-resets p (a ∷ b ∷ c ∷ d ∷ []) e = refl
-still-resets p (a ∷ b ∷ c ∷ d ∷ x ∷ xs) e = absurd (omega arith)
 
 -- ---- edges in use, by number
 

@@ -26,7 +26,7 @@ use Rattle.cells.specs.Layout.{Laid, cellsIn}
 use Rattle.cells.specs.Index.{codeOf, clocksAt, ticked, blockAt, indexOf, lenAt, stageAt, placeAt, cellClocks}
 use Rattle.pattern.proofs.ListLaws.{length-zip}
 use Rattle.pattern.proofs.SoundLaws.{both}
-use Rattle.cells.proofs.Digits.{block-some, coded, code-of-clocks, clocks-of-code, clocks-within, ticked-within, reset-within}
+use Rattle.cells.proofs.Digits.{block-some, coded, code-of-clocks, clocks-of-code, clocks-within, ticked-within, ticked-long, reset-within}
 use Rattle.cells.proofs.Blocks.{row-next, row-first, below-block, block-low, block-in, at}
 use Rattle.walks.specs.Automaton.{Automaton, TickView, State, entering, stayed, taken, Same}
 use Rattle.walks.specs.Walks.{Move, stays, takes}
@@ -40,13 +40,13 @@ use Rattle.steps.specs.Steps.{edgeIn}
 use Rattle.table.specs.Moves.{cellAt, cleared, gainAt, still, rowsOf, begun, tickOf, openOf}
 use Rattle.table.specs.Asks.{Known, Ticking}
 use Rattle.table.proofs.Kept.{marked-long, rows-long}
-use Rattle.table.proofs.Steps.{whole-rows}
+use Rattle.table.proofs.Steps.{still-resets, whole-rows}
 use Rattle.table_laws.specs.Offers.{goesTo, mayGo, Passes, stageOf, gainsOf, Follows, Goes, RowOffers}
 use Rattle.table_laws.specs.Meaning.{stateAt, indexAt, tableOf, viewOf, About, Seen, Viewed}
 use Rattle.table_laws.specs.Claims.{TickIsNext, TickIsSeen, OpenIsOpening, OpenIsSeen}
 use Rattle.table_laws.proofs.Best.{rows-best}
 use Rattle.table_laws.proofs.Rows.{starts-begun, starts-other, tick-past, first-cleared}
-use Rattle.table_laws.proofs.States.{state-same, Cell, state-of-index, index-of-state, seen-in, in-seen, seen-holds, ticked-four-long, still-resets, edge-in, in-edges}
+use Rattle.table_laws.proofs.States.{state-same, Cell, state-of-index, index-of-state, seen-in, in-seen, seen-holds, edge-in, in-edges}
 
 -- staying has no guards
 still-holds : (p : ℕ) (cs : Clocks) → guardsHold cs (still p) ≡ true
@@ -88,7 +88,7 @@ module _ (l : Layout) (w : Weighing) (v : View) (es : List Edge) (count : ℕ) (
   reset-four : (e : Edge) (cs : Clocks) → length (e .resets) ≡ 4 → length cs ≡ 4 → length (afterResets e (ticked (l .radices) cs)) ≡ 4
   unfolding afterResets
   reset-four e cs rs four =
-      let c = ticked-four-long l cs (k .laid) four in
+      let c = ticked-long l cs (k .laid) four in
       length-zip _ (e .resets) (ticked (l .radices) cs) (rs ∙ sym c) ∙ c
 
   lands-state : (n : ℕ) (e : Edge) (b : Bool) (cs : Clocks) (j : ℕ) → n < l .high → e .to < l .places → length (e .resets) ≡ 4 → length cs ≡ 4 → j ≡ blockAt l (n + 1) (stageOf b) (e .to) + goesTo l e cs → _≡_ {A = State Clocks} (stateAt l j) (record { len = suc n; entered = b; place = e .to; clocks = afterResets e (ticked (l .radices) cs) })
@@ -111,7 +111,7 @@ module _ (l : Layout) (w : Weighing) (v : View) (es : List Edge) (count : ℕ) (
       let cs = clocksAt (l .radices) (f .passes .cell) in
       let four = clocks-four (f .passes .cell) in
       let clocks : A .tick (clocksAt (l .radices) (f .passes .cell)) ≡ afterResets (still (o .which)) (ticked (l .radices) (clocksAt (l .radices) (f .passes .cell))) =
-      about .tick-is (clocksAt (l .radices) (f .passes .cell)) ∙ sym (still-resets (o .which) (ticked (l .radices) (clocksAt (l .radices) (f .passes .cell))) (ticked-four-long l (clocksAt (l .radices) (f .passes .cell)) (k .laid) four)) in
+      about .tick-is (clocksAt (l .radices) (f .passes .cell)) ∙ sym (still-resets (o .which) (ticked (l .radices) (clocksAt (l .radices) (f .passes .cell))) (ticked-long l (clocksAt (l .radices) (f .passes .cell)) (k .laid) four)) in
       let same : stayed A (from-state n (f .from) (o .which) (f .passes .cell)) ≡ stateAt l j =
       state-same _ _ _ _ _ _ _ _ refl refl refl clocks ∙ sym (lands-state n (still (o .which)) false (clocksAt (l .radices) (f .passes .cell)) j low (o .low) refl four (f .passes .moves .lands)) in
       to-offered n (still (o .which)) false j x low (o .low) (f .from) (f .passes)
@@ -187,7 +187,7 @@ module _ (l : Layout) (w : Weighing) (v : View) (es : List Edge) (count : ℕ) (
   from-move : (s x : State Clocks) (n j : ℕ) (y had gain : ℤ) → Move A (l .high) s x → Cell l s → s .len ≡ n → indexAt l x ≡ j → tableOf l t s ≡ some had → viewOf v (s .entered) (s .place) ≡ some gain → y ≡ weightingOf w .combine had gain → RowOffers l w v es count n t j y
   from-move s x n j y had gain (stays low) c en i holds gains is =
       let p = s .place in
-      let four = ticked-four-long l (s .clocks) (k .laid) (c .four) in
+      let four = ticked-long l (s .clocks) (k .laid) (c .four) in
       let clocks : A .tick (s .clocks) ≡ afterResets (still (s .place)) (ticked (l .radices) (s .clocks)) = about .tick-is (s .clocks) ∙ sym (still-resets (s .place) (ticked (l .radices) (s .clocks)) four) in
       let same = index-parts (stayed A s) n false (s .place) (afterResets (still (s .place)) (ticked (l .radices) (s .clocks))) (state-same _ _ _ _ _ _ _ _ (ap suc en) refl refl clocks) in
       inl (record { which = s .place; low = c .place-in; follows = follows-from s n (still (s .place)) false j y had gain c en refl holds gains (still-holds (s .place) (ticked (l .radices) (s .clocks))) (sym i ∙ same) is })

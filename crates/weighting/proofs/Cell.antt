@@ -1,6 +1,6 @@
 -- A cell and what it holds: each from the other, and how the code tells a mark.
 use mathlib.Core.Path.{_≡_, refl, sym, ap, _∙_}
-use mathlib.Core.Bool.{Bool, true, false, cond}
+use mathlib.Core.Bool.{Bool, true, false, cond, _&&_}
 use mathlib.Core.Logic.{⊎-elim}
 use mathlib.Core.Option.{Option, none, some, Option·none-ne-some, Option·some-injective}
 use Prim.Native.Nat.{ℕ, _<_, _^_}
@@ -80,3 +80,15 @@ small-no-mark z h e = omega (arith, ap natAbs e)
 
 pub mark-fits : SFits w64 mark
 mark-fits = sfits-lit tt
+
+-- ---- the choice as the code makes it
+
+pub chosen-is : (O : Order ℤ) (cell worth : ℤ)
+    → SFits w64 cell
+    → cond (ltZ mark cell && O .atLeast cell worth) cell worth ≡ cellOf (choose O (heldIn cell) worth)
+unfolding better
+chosen-is O cell worth fits = by (ltZ mark cell) refl
+  where
+    by : (t : Bool) → ltZ mark cell ≡ t → cond (t && O .atLeast cell worth) cell worth ≡ cellOf (choose O (heldIn cell) worth)
+    by true e = rw (above-mark cell e)
+    by false e = rw (not-above-mark cell fits e, heldIn-mark)

@@ -1,9 +1,10 @@
-// The two weightings on i64: the unit, the combination, the better of two, and the choice in a cell.
+// The two weightings on i64: the unit, the combination, and the choice in a cell.
 ghost use mathlib.Core.Path.{_≡_};
+ghost use mathlib.Core.Bool.{cond};
 ghost use mir.Syntax.{w64};
 ghost use mir.Val.{SFits};
 ghost use Rattle.integers.specs.Least.{minZ};
-ghost use Rattle.weighting.specs.Order.{better, choose};
+ghost use Rattle.weighting.specs.Order.{choose};
 ghost use Rattle.weighting.specs.Weightings.{weightingOf};
 ghost use Rattle.weighting.specs.Cell.{cellOf, heldIn};
 
@@ -53,20 +54,19 @@ pub fn at_least(w: Weighing, a: i64, b: i64) -> bool
     }
 }
 
-// The better of two worths, and of equals the first.
-pub fn better(w: Weighing, a: i64, b: i64) -> i64
-    ensures { λ r. ⌜ r ≡ better (weightingOf w .order) a b ⌝ }
+// One of two numbers, fetched by its index and not by a branch.
+fn one_of(on: bool, a: i64, b: i64) -> i64
+    ensures { λ r. ⌜ r ≡ cond on a b ⌝ }
 {
-    if at_least(w, a, b) { a } else { b }
+    let both = [b, a];
+    both[on as usize]
 }
 
-// The cell after one more worth was offered to it. The mark is no worth: who offers it empties the cell or leaves it.
+// The cell after one more worth was offered to it. The mark is no worth: who offers it empties the cell or leaves it. No
+// branch, since which of the two is better cannot be foretold.
 pub fn choose(w: Weighing, cell: i64, worth: i64) -> i64
     ensures { λ r. ⌜ r ≡ cellOf (choose (weightingOf w .order) (heldIn cell) worth) ⌝ }
 {
-    if MARK < cell {
-        better(w, cell, worth)
-    } else {
-        worth
-    }
+    let keeps = at_least(w, cell, worth);
+    one_of((MARK < cell) & keeps, cell, worth)
 }

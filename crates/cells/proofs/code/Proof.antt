@@ -10,44 +10,23 @@ use Rattle.cells.proofs.code.Tie as tie
 array-read-a : tie.Need-array-read-a
 array-read-a c = search needs
 
-cast-a : tie.Need-cast-a
-cast-a c = search needs
-
 array-read-b : tie.Need-array-read-b
 array-read-b c = search needs
-
-cast-b : tie.Need-cast-b
-cast-b c = search needs
 
 array-read-c : tie.Need-array-read-c
 array-read-c c = search needs
 
-cast-c : tie.Need-cast-c
-cast-c c = search needs
-
 array-read-d : tie.Need-array-read-d
 array-read-d c = search needs
-
-cast-d : tie.Need-cast-d
-cast-d c = search needs
 
 element-copy-out-s : tie.Need-element-copy-out-s
 element-copy-out-s c = search needs
 
-cast-s : tie.Need-cast-s
-cast-s c = search needs
-
 element-copy-out-t : tie.Need-element-copy-out-t
 element-copy-out-t c = search needs
 
-cast-t : tie.Need-cast-t
-cast-t c = search needs
-
 element-copy-out-u : tie.Need-element-copy-out-u
 element-copy-out-u c = search needs
-
-cast-u : tie.Need-cast-u
-cast-u c = search needs
 
 mul-result : tie.Need-mul-result
 unfolding codeOf
@@ -100,19 +79,12 @@ code-spec =
     tie.close
     (tie.spec
     array-read-a
-    cast-a
     array-read-b
-    cast-b
     array-read-c
-    cast-c
     array-read-d
-    cast-d
     element-copy-out-s
-    cast-s
     element-copy-out-t
-    cast-t
     element-copy-out-u
-    cast-u
     mul-result
     add-result
     mul-result-2

@@ -1,7 +1,6 @@
 -- `layout_of` is the pattern's layout; a sound pattern's products fit.
 use native.Mathlib.Omega.{arith}
 use borrow.Author.Needs.{needs}
-use Rattle.pattern.proofs.CellLaws.{radix-low}
 use Rattle.cells.proofs.Layouts.{products, layout-is}
 use Rattle.cells.proofs.layout_of.Statement.{statement}
 use Rattle.cells.proofs.layout_of.Tie as tie
@@ -36,35 +35,11 @@ mul-block-3 c = let s = c .before .before .before .before .before in
     let h = products (s .args .p) _ _ _ _ (s .pre) (c .before .before .before .before .radix .ensures) (c .before .before .before .radix2 .ensures) (c .before .before .radix3 .ensures) (c .before .radix4 .ensures) in
     omega arith
 
-cast-t13 : tie.Need-cast-t13
-cast-t13 c = let s = c .before .before .before .before .before in
-    let e = c .before .before .before .before .radix .ensures in
-    let h = radix-low (s .args .p) 0 (s .pre) in
-    omega arith
+mul-t16 : tie.Need-mul-t16
+mul-t16 c = search needs
 
-cast-t14 : tie.Need-cast-t14
-cast-t14 c = let s = c .before .before .before .before .before in
-    let e = c .before .before .before .radix2 .ensures in
-    let h = radix-low (s .args .p) 1 (s .pre) in
-    omega arith
-
-cast-t15 : tie.Need-cast-t15
-cast-t15 c = let s = c .before .before .before .before .before in
-    let e = c .before .before .radix3 .ensures in
-    let h = radix-low (s .args .p) 2 (s .pre) in
-    omega arith
-
-cast-t16 : tie.Need-cast-t16
-cast-t16 c = let s = c .before .before .before .before .before in
-    let e = c .before .radix4 .ensures in
-    let h = radix-low (s .args .p) 3 (s .pre) in
-    omega arith
-
-mul-t18 : tie.Need-mul-t18
-mul-t18 c = search needs
-
-mul-t19 : tie.Need-mul-t19
-mul-t19 c = let s = c .before .before .before .before .before in
+mul-t15 : tie.Need-mul-t15
+mul-t15 c = let s = c .before .before .before .before .before in
     let h = products (s .args .p) _ _ _ _ (s .pre) (c .before .before .before .before .radix .ensures) (c .before .before .before .radix2 .ensures) (c .before .before .radix3 .ensures) (c .before .radix4 .ensures) in
     omega arith
 
@@ -84,10 +59,6 @@ layout-of-spec =
     mul-block
     mul-block-2
     mul-block-3
-    cast-t13
-    cast-t14
-    cast-t15
-    cast-t16
-    mul-t18
-    mul-t19
+    mul-t16
+    mul-t15
     returns)

@@ -10,7 +10,7 @@ use Rattle.feed.proofs.mark_all.Tie as tie
 use Rattle.feed.proofs.mark_all.Reads as reads
 use Rattle.feed.proofs.mark_all.Lts as lts
 use Rattle.cells.proofs.layout_of.Reads as layout-of-reads
-use Rattle.table.proofs.clear.Reads as clear-reads
+use Rattle.table_tick.proofs.clear.Reads as clear-reads
 
 -- src/lib.rt:57:9
 layout-of-requires : tie.Need-layout-of-requires

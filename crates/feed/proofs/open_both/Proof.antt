@@ -15,7 +15,7 @@ use Rattle.feed.proofs.open_both.Lts as lts
 use Rattle.cells.proofs.layout_of.Reads as layout-of-reads
 use Rattle.feed.proofs.mark_all.Reads as mark-all-reads
 use Rattle.feed_ticks.proofs.kind_flags.Reads as kind-flags-reads
-use Rattle.table.proofs.open.Reads as open-reads
+use Rattle.table_tick.proofs.open.Reads as open-reads
 
 -- src/lib.rt:69:9
 layout-of-requires : tie.Need-layout-of-requires

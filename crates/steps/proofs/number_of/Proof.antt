@@ -3,7 +3,7 @@ use mathlib.Core.Path.{refl, ap}
 use borrow.Author.Tests.{lt-ltb, le-ltb}
 use borrow.Author.Needs.{needs}
 use Rattle.steps.specs.declared.Span.{Span}
-use Rattle.steps.specs.Steps.{numberOf}
+use Rattle.steps.specs.Made.{numberOf}
 use Rattle.steps.proofs.number_of.Statement.{statement}
 use Rattle.steps.proofs.number_of.Tie as tie
 

@@ -2,7 +2,7 @@
 use Prim.Native.Nat.{_≤_, _-_, min}
 use native.Mathlib.Omega.{arith}
 use mathlib.Core.Path.{_≡_, refl, _∙_, ap}
-use Rattle.steps.specs.Steps.{spanOf}
+use Rattle.steps.specs.Made.{spanOf}
 use Rattle.steps.proofs.Spans.{span-more}
 use Rattle.steps.proofs.span_of.Statement.{statement}
 use Rattle.steps.proofs.span_of.Tie as tie

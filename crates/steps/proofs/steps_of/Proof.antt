@@ -3,7 +3,8 @@ use Prim.Native.Nat.{ℕ, _+_, _-_, _*_, _/_, _%_, _≤_, _<_}
 use native.Mathlib.Omega.{arith}
 use mathlib.Core.Path.{_≡_, _∙_}
 use lib.ListN.{length, getD, length-replicate, length-set}
-use Rattle.steps.specs.Steps.{edgeIn, numberOf}
+use Rattle.steps.specs.Steps.{edgeIn}
+use Rattle.steps.specs.Made.{numberOf}
 use Rattle.steps.proofs.Spans.{written-more, steps-made}
 use Rattle.steps.proofs.steps_of.Statement.{statement}
 use Rattle.steps.proofs.steps_of.Tie as tie

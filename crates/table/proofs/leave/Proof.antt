@@ -22,9 +22,6 @@ four c = c .good .1 .1 .1 .1 .1 .1 .1 .1 .1 .0 .1 .0 .1
 leads-to-requires : tie.Need-leads-to-requires
 leads-to-requires c κs = search needs
 
-cast-end : tie.Need-cast-end
-cast-end c = search needs
-
 add-block-at : tie.Need-add-block-at
 add-block-at c = search needs
 
@@ -99,7 +96,6 @@ leave-spec =
     tie.close
     (tie.spec
     leads-to-requires
-    cast-end
     add-block-at
     block-at-requires
     add-flag-at
