@@ -23,7 +23,7 @@ use Rattle.line_lists.specs.ResetList.{noResets, added}
 use Rattle.line_read.specs.Lines.{heldHeader}
 use Rattle.line_lists.proofs.Held.{min-ltb}
 use Rattle.pattern_read.specs.Reading.{noPattern}
-use Rattle.pattern_read.specs.Turn.{verdict, verdictOf, headerFine, headedAt, putPlace, placeVerdict, placeFrom, putEdge, edgeVerdict, edgeFrom}
+use Rattle.pattern_read.specs.Turn.{verdict, verdictOf, headerFine, headerAlone, putPlace, placeVerdict, placeFrom, putEdge, edgeVerdict, edgeFrom}
 use Rattle.pattern_read.proofs.Judgement.{InRange, ranges}
 use Rattle.pattern_read.proofs.HeldLines.{header-held, few-held, place-held, guards-held, resets-held, resets-known}
 
@@ -36,9 +36,9 @@ pub header-same : (h : Header) → headerFine (heldHeader h) ≡ headerInRange (
 unfolding headerFine
 header-same h = header-held (h .channels) (h .clocks) (h .low) (h .high)
 
-pub header-filled : (h : Header) (n : ℕ) → headerInRange (h .channels) (h .clocks) (h .low) (h .high) ≡ true → headedAt (heldHeader h) n .pattern ≡ patternOf (headed h)
-unfolding headedAt patternOf pad
-header-filled h n e =
+pub header-filled : (h : Header) → headerInRange (h .channels) (h .clocks) (h .low) (h .high) ≡ true → headerAlone (heldHeader h) ≡ patternOf (headed h)
+unfolding headerAlone patternOf pad
+header-filled h e =
     let r = ranges (h .channels) (h .clocks) (h .low) (h .high) e in
     let c : min 255 (min cap (h .channels)) ≡ h .channels = omega arith in
     let k : min 255 (min cap (h .clocks)) ≡ h .clocks = omega arith in

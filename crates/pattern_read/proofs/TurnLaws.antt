@@ -9,6 +9,7 @@ use Rattle.pattern.specs.declared.Refusal.the-variants.{BrokenForm, OutOfRange}
 use Rattle.pattern.specs.declared.Place.{Place}
 use Rattle.pattern.specs.declared.Edge.{Edge}
 use Rattle.pattern.specs.declared.Pattern.{Pattern}
+use Rattle.pattern.specs.Sound.{noPlace, noEdge}
 use Rattle.pattern_text.specs.Bytes.{Bytes}
 use Rattle.line_read.specs.declared.Header.{Header}
 use Rattle.line_read.specs.declared.HeaderRead as headerread
@@ -17,74 +18,84 @@ use Rattle.line_read.specs.declared.EdgeRead.{EdgeRead}
 use Rattle.line_read.specs.Lines.{headerAt, placeAt, edgeAt}
 use Rattle.pattern_read.specs.declared.Stage as stage
 use Rattle.pattern_read.specs.declared.State.{State}
+use Rattle.pattern_read.specs.declared.Counts.{Counts}
+use Rattle.pattern_read.specs.declared.Content as content
+use Rattle.pattern_read.specs.declared.Line.{Line}
 use Rattle.pattern_read.specs.declared.PatternRead.{PatternRead}
 use Rattle.pattern_read.specs.declared.Verdict as verdict
-use Rattle.pattern_read.specs.Turn.{refusedAt, headerFine, headedAt, headerTurned, headerTurn, putPlace, putEdge, ruled, placeVerdict, placeFrom, placeState, edgeVerdict, edgeFrom, edgeState, edgeTurn, placeTurn, refusedOf, settledOf, finished, finishOf}
+use Rattle.pattern_read.specs.Turn.{bareLine, ofPlace, ofEdge, refusedLine, headerFine, headerJudged, headerLineAt, ruled, placeVerdict, placeFrom, placeJudged, placeLineAt, edgeVerdict, edgeFrom, edgeJudged, edgeLineAt, put, putLine, refusedOf, settledOf, finished, finishOf}
 
 yes : {A : Type 0} (b : Bool) (x y r : A) → b ≡ true → r ≡ x → r ≡ cond b x y
 yes b x y r e h = rw e h
 
-module _ (t : Bytes) (at : ℕ) (r : State) where
-  pub header-broken : headerread.the-variants.Broken ≡ headerAt t at → r ≡ refusedAt (length t) BrokenForm → r ≡ headerTurn t at
-  unfolding headerTurn
-  header-broken e h = h ∙ ap (headerTurned t) e
+-- ---- the header's line
 
-  pub header-good : (x : Header) (n : ℕ) (f : Bool) → headerread.the-variants.Value x n ≡ headerAt t at → f ≡ headerFine x → f ≡ true → r ≡ headedAt x n → r ≡ headerTurn t at
-  unfolding headerTurn
+module _ (t : Bytes) (at : ℕ) (r : Line) where
+  pub header-broken : headerread.the-variants.Broken ≡ headerAt t at → r ≡ refusedLine (length t) BrokenForm → r ≡ headerLineAt t at
+  unfolding headerLineAt
+  header-broken e h = h ∙ ap (headerJudged t) e
+
+  pub header-good : (x : Header) (n : ℕ) (f : Bool) → headerread.the-variants.Value x n ≡ headerAt t at → f ≡ headerFine x → f ≡ true → r ≡ bareLine n (content.the-variants.Header x) → r ≡ headerLineAt t at
+  unfolding headerLineAt
   header-good x n f e g k h =
-      let l : r ≡ headerTurned t (headerread.the-variants.Value x n) = rw (sym g ∙ k) h in
-      l ∙ ap (headerTurned t) e
+      let l : r ≡ headerJudged t (headerread.the-variants.Value x n) = rw (sym g ∙ k) h in
+      l ∙ ap (headerJudged t) e
 
-  pub header-bad : (x : Header) (n : ℕ) (f : Bool) → headerread.the-variants.Value x n ≡ headerAt t at → f ≡ headerFine x → f ≡ false → r ≡ refusedAt (length t) OutOfRange → r ≡ headerTurn t at
-  unfolding headerTurn
+  pub header-bad : (x : Header) (n : ℕ) (f : Bool) → headerread.the-variants.Value x n ≡ headerAt t at → f ≡ headerFine x → f ≡ false → r ≡ refusedLine (length t) OutOfRange → r ≡ headerLineAt t at
+  unfolding headerLineAt
   header-bad x n f e g k h =
-      let l : r ≡ headerTurned t (headerread.the-variants.Value x n) = rw (sym g ∙ k) h in
-      l ∙ ap (headerTurned t) e
-
--- ---- a place's line
-
-module _ (end : ℕ) (p : Pattern) (line : PlaceRead) where
-  pub place-faulty : (x : Refusal) (r : State) → verdict.the-variants.Faulty x ≡ placeVerdict (p .placecount) (line .tests) → r ≡ refusedAt end x → r ≡ placeState end p line
-  unfolding placeState
-  place-faulty x r e h = h ∙ ap (λ v. ruled end v (record { at = line .next; stage = stage.the-variants.Places; pattern = putPlace p (placeFrom (line .kind) (line .tests)) })) e
-
-  pub place-good : (l : Place) (q : Pattern) → verdict.the-variants.Fine ≡ placeVerdict (p .placecount) (line .tests) → l ≡ placeFrom (line .kind) (line .tests) → q ≡ putPlace p l → record { at = line .next; stage = stage.the-variants.Places; pattern = q } ≡ placeState end p line
-  unfolding placeState
-  place-good l q e g h = ap (λ q. record { at = line .next; stage = stage.the-variants.Places; pattern = q }) (h ∙ ap (putPlace p) g) ∙ ap (λ v. ruled end v (record { at = line .next; stage = stage.the-variants.Places; pattern = putPlace p (placeFrom (line .kind) (line .tests)) })) e
+      let l : r ≡ headerJudged t (headerread.the-variants.Value x n) = rw (sym g ∙ k) h in
+      l ∙ ap (headerJudged t) e
 
 -- ---- an edge's line
 
-module _ (end : ℕ) (p : Pattern) (line : EdgeRead) where
-  pub edge-early : (r : State) → p .placecount < 1 → r ≡ refusedAt end BrokenForm → r ≡ edgeState end p line
-  unfolding edgeState
-  edge-early r k h = rw (lt-ltb (p .placecount) 1 k) h
+module _ (t : Bytes) (at : ℕ) (n : Counts) (line : EdgeRead) (e : line ≡ edgeAt (n .clocks) t at) where
+  pub edge-absent : (r : Line) → line .found ≡ false → r ≡ refusedLine (length t) BrokenForm → r ≡ edgeLineAt t at n
+  unfolding edgeLineAt
+  edge-absent r f h = rw (ap (λ (x : EdgeRead). x .found) (sym e) ∙ f) h
 
-  pub edge-faulty : (x : Refusal) (r : State) → 1 ≤ p .placecount → verdict.the-variants.Faulty x ≡ edgeVerdict (p .placecount) (p .edgecount) line → r ≡ refusedAt end x → r ≡ edgeState end p line
-  unfolding edgeState
-  edge-faulty x r k e h = rw (le-ltb (p .placecount) 1 k) (h ∙ ap (λ v. ruled end v (record { at = line .next; stage = stage.the-variants.Edges; pattern = putEdge p (edgeFrom line) })) e)
+  edge-there : (r : Line) → line .found ≡ true → r ≡ edgeJudged (length t) (n .places) (n .edges) line → r ≡ edgeLineAt t at n
+  unfolding edgeLineAt
+  edge-there r f h = yes (edgeAt (n .clocks) t at .found) (edgeJudged (length t) (n .places) (n .edges) (edgeAt (n .clocks) t at)) (refusedLine (length t) BrokenForm) r (ap (λ (x : EdgeRead). x .found) (sym e) ∙ f) (h ∙ ap (edgeJudged (length t) (n .places) (n .edges)) e)
 
-  pub edge-good : (l : Edge) (q : Pattern) → 1 ≤ p .placecount → verdict.the-variants.Fine ≡ edgeVerdict (p .placecount) (p .edgecount) line → l ≡ edgeFrom line → q ≡ putEdge p l → record { at = line .next; stage = stage.the-variants.Edges; pattern = q } ≡ edgeState end p line
-  unfolding edgeState
-  edge-good l q k e g h = rw (le-ltb (p .placecount) 1 k) (ap (λ q. record { at = line .next; stage = stage.the-variants.Edges; pattern = q }) (h ∙ ap (putEdge p) g) ∙ ap (λ v. ruled end v (record { at = line .next; stage = stage.the-variants.Edges; pattern = putEdge p (edgeFrom line) })) e)
+  pub edge-early : (r : Line) → line .found ≡ true → n .places < 1 → r ≡ refusedLine (length t) BrokenForm → r ≡ edgeLineAt t at n
+  unfolding edgeJudged
+  edge-early r f k h = edge-there r f (rw (lt-ltb (n .places) 1 k) h)
 
--- ---- a line of either kind
+  edge-ruled : (r : Line) (v : verdict.Verdict) → line .found ≡ true → 1 ≤ n .places → v ≡ edgeVerdict (n .places) (n .edges) line → r ≡ ruled (length t) v (ofEdge (line .next) (edgeFrom line)) → r ≡ edgeLineAt t at n
+  unfolding edgeJudged
+  edge-ruled r v f k g h = edge-there r f (rw (le-ltb (n .places) 1 k) (h ∙ ap (λ v. ruled (length t) v (ofEdge (line .next) (edgeFrom line))) g))
 
-module _ (t : Bytes) (at : ℕ) (p : Pattern) (r : State) where
-  pub edge-there : (line : EdgeRead) → line ≡ edgeAt (p .clocks) t at → line .found ≡ true → r ≡ edgeState (length t) p line → r ≡ edgeTurn t at p
-  unfolding edgeTurn
-  edge-there line e f h = yes (edgeAt (p .clocks) t at .found) (edgeState (length t) p (edgeAt (p .clocks) t at)) (refusedAt (length t) BrokenForm) r (ap (λ (x : EdgeRead). x .found) (sym e) ∙ f) (h ∙ ap (edgeState (length t) p) e)
+  pub edge-faulty : (x : Refusal) (r : Line) → line .found ≡ true → 1 ≤ n .places → verdict.the-variants.Faulty x ≡ edgeVerdict (n .places) (n .edges) line → r ≡ refusedLine (length t) x → r ≡ edgeLineAt t at n
+  edge-faulty x r f k g h = edge-ruled r (verdict.the-variants.Faulty x) f k g h
 
-  pub edge-absent : (line : EdgeRead) → line ≡ edgeAt (p .clocks) t at → line .found ≡ false → r ≡ refusedAt (length t) BrokenForm → r ≡ edgeTurn t at p
-  unfolding edgeTurn
-  edge-absent line e f h = rw (ap (λ (x : EdgeRead). x .found) (sym e) ∙ f) h
+  pub edge-good : (q : Place) (l : Edge) → line .found ≡ true → 1 ≤ n .places → verdict.the-variants.Fine ≡ edgeVerdict (n .places) (n .edges) line → q ≡ noPlace → l ≡ edgeFrom line → record { at = line .next; content = content.the-variants.Edge; place = q; edge = l } ≡ edgeLineAt t at n
+  edge-good q l f k g u h = edge-ruled (record { at = line .next; content = content.the-variants.Edge; place = q; edge = l }) verdict.the-variants.Fine f k g (λ i. record { at = line .next; content = content.the-variants.Edge; place = u i; edge = h i })
 
-  pub place-there : (line : PlaceRead) → line ≡ placeAt (p .channels) t at → line .found ≡ true → r ≡ placeState (length t) p line → r ≡ placeTurn t at p
-  unfolding placeTurn
-  place-there line e f h = yes (placeAt (p .channels) t at .found) (placeState (length t) p (placeAt (p .channels) t at)) (edgeTurn t at p) r (ap (λ (x : PlaceRead). x .found) (sym e) ∙ f) (h ∙ ap (placeState (length t) p) e)
+-- ---- a place's line
 
-  pub place-absent : (line : PlaceRead) → line ≡ placeAt (p .channels) t at → line .found ≡ false → r ≡ edgeTurn t at p → r ≡ placeTurn t at p
-  unfolding placeTurn
-  place-absent line e f h = rw (ap (λ (x : PlaceRead). x .found) (sym e) ∙ f) h
+module _ (t : Bytes) (at : ℕ) (n : Counts) (line : PlaceRead) (e : line ≡ placeAt (n .channels) t at) where
+  pub place-absent : (r : Line) → line .found ≡ false → r ≡ edgeLineAt t at n → r ≡ placeLineAt t at n
+  unfolding placeLineAt
+  place-absent r f h = rw (ap (λ (x : PlaceRead). x .found) (sym e) ∙ f) h
+
+  place-ruled : (r : Line) (v : verdict.Verdict) → line .found ≡ true → v ≡ placeVerdict (n .places) (line .tests) → r ≡ ruled (length t) v (ofPlace (line .next) (placeFrom (line .kind) (line .tests))) → r ≡ placeLineAt t at n
+  unfolding placeLineAt placeJudged
+  place-ruled r v f g h = yes (placeAt (n .channels) t at .found) (placeJudged (length t) (n .places) (placeAt (n .channels) t at)) (edgeLineAt t at n) r (ap (λ (x : PlaceRead). x .found) (sym e) ∙ f)
+      (h ∙ ap (λ v. ruled (length t) v (ofPlace (line .next) (placeFrom (line .kind) (line .tests)))) g ∙ ap (placeJudged (length t) (n .places)) e)
+
+  pub place-faulty : (x : Refusal) (r : Line) → line .found ≡ true → verdict.the-variants.Faulty x ≡ placeVerdict (n .places) (line .tests) → r ≡ refusedLine (length t) x → r ≡ placeLineAt t at n
+  place-faulty x r f g h = place-ruled r (verdict.the-variants.Faulty x) f g h
+
+  pub place-good : (l : Place) (q : Edge) → line .found ≡ true → verdict.the-variants.Fine ≡ placeVerdict (n .places) (line .tests) → l ≡ placeFrom (line .kind) (line .tests) → q ≡ noEdge → record { at = line .next; content = content.the-variants.Place; place = l; edge = q } ≡ placeLineAt t at n
+  place-good l q f g h u = place-ruled (record { at = line .next; content = content.the-variants.Place; place = l; edge = q }) verdict.the-variants.Fine f g (λ i. record { at = line .next; content = content.the-variants.Place; place = h i; edge = u i })
+
+-- ---- by the content
+
+module _ (p : Pattern) (line : Line) (x : content.Content) (is : line .content ≡ x) where
+  pub put-by : (r : State) → r ≡ put p line x → r ≡ putLine p line
+  unfolding putLine
+  put-by r h = h ∙ ap (put p line) (sym is)
 
 -- ---- by the stage
 

@@ -5,24 +5,26 @@ ghost use Prim.Native.Nat.{_≤_};
 ghost use lib.Dec.{leb, ltb};
 ghost use lib.ListN.{length};
 ghost use mathlib.Core.Option.{none};
+ghost use Rattle.pattern.specs.Sound.{noPlace, noEdge};
 ghost use Rattle.pattern_text.specs.Text.{linesOf, readLines, readOf};
 ghost use Rattle.pattern_read.specs.Reading.{noPattern, readingOf};
 ghost use Rattle.pattern_read.specs.Turn.{
-  verdictOf,
   refusedAt,
+  verdictOf,
   headerFine,
-  headedAt,
-  headerTurn,
+  headerAlone,
   putPlace,
   putEdge,
+  bareLine,
+  headerLineAt,
   placeVerdict,
   placeFrom,
-  placeState,
+  placeLineAt,
   edgeVerdict,
   edgeFrom,
-  edgeState,
-  edgeTurn,
-  placeTurn,
+  edgeLineAt,
+  lineAt,
+  putLine,
   turned,
   refusedOf,
   settledOf,
@@ -73,31 +75,67 @@ pub struct State {
     pub pattern: Pattern,
 }
 
-pub fn no_pattern() -> Pattern
-    ensures { λ r. ⌜ r ≡ noPattern ⌝ }
+// What a line's judgement needs of the pattern above it: how many there are of each.
+pub struct Counts {
+    pub channels: u8,
+    pub clocks: u8,
+    pub places: u8,
+    pub edges: u8,
+}
+
+pub enum Content {
+    Header(Header),
+    Place,
+    Edge,
+    Refused(Refusal),
+}
+
+// A line, judged, and where the next one begins: it is copied from function to function, where a pattern is large.
+// The place and the edge stand beside the content, zeros throughout where they are not meant.
+pub struct Line {
+    pub at: usize,
+    pub content: Content,
+    pub place: Place,
+    pub edge: Edge,
+}
+
+fn no_place() -> Place
+    ensures { λ r. ⌜ r ≡ noPlace ⌝ }
 {
     let t = Test {
         sign: Sign::Less,
         channel: 0,
         bound: 0,
     };
-    let place = Place {
+    Place {
         kind: Kind::Plain,
         tests: [t; 4],
         count: 0,
-    };
+    }
+}
+
+fn no_edge() -> Edge
+    ensures { λ r. ⌜ r ≡ noEdge ⌝ }
+{
     let g = Guard {
         sign: Sign::Less,
         clock: 0,
         bound: 0,
     };
-    let edge = Edge {
+    Edge {
         from: 0,
         to: 0,
         guards: [g; 4],
         count: 0,
         resets: [false; 4],
-    };
+    }
+}
+
+pub fn no_pattern() -> Pattern
+    ensures { λ r. ⌜ r ≡ noPattern ⌝ }
+{
+    let place = no_place();
+    let edge = no_edge();
     Pattern {
         weighing: Weighing::Margin,
         channels: 0,
@@ -173,8 +211,8 @@ fn header_fine(h: Header) -> bool
 }
 
 // A pattern of a header alone.
-fn headed_at(h: Header, next: usize) -> State
-    ensures { λ r. ⌜ r ≡ headedAt h next ⌝ }
+fn header_alone(h: Header) -> Pattern
+    ensures { λ r. ⌜ r ≡ headerAlone h ⌝ }
 {
     let weighing = h.weighing;
     let channels = line_parts::index(h.channels);
@@ -184,7 +222,7 @@ fn headed_at(h: Header, next: usize) -> State
     let blank = no_pattern();
     let places = blank.places;
     let edges = blank.edges;
-    let pattern = Pattern {
+    Pattern {
         weighing,
         channels,
         clocks,
@@ -194,29 +232,6 @@ fn headed_at(h: Header, next: usize) -> State
         places,
         edgecount: 0,
         edges,
-    };
-    State {
-        at: next,
-        stage: Stage::Places,
-        pattern,
-    }
-}
-
-// The header's line, judged.
-fn header_turn(text: &[u8], at: usize) -> State
-    requires { ⌜ at ≤ length (now text) ⌝ }
-    ensures { λ r. ⌜ r ≡ headerTurn (now (text .entry)) at ⌝ }
-{
-    let end = text.len();
-    match line_read::header_at(text, at) {
-        HeaderRead::Broken => refused_at(end, Refusal::BrokenForm),
-        HeaderRead::Value(h, next) => {
-            if header_fine(h) {
-                headed_at(h, next)
-            } else {
-                refused_at(end, Refusal::OutOfRange)
-            }
-        }
     }
 }
 
@@ -248,6 +263,38 @@ fn put_edge(p: Pattern, edge: Edge) -> Pattern
     r
 }
 
+// A line that holds neither a place nor an edge.
+fn bare_line(at: usize, content: Content) -> Line
+    ensures { λ r. ⌜ r ≡ bareLine at content ⌝ }
+{
+    let place = no_place();
+    let edge = no_edge();
+    Line {
+        at,
+        content,
+        place,
+        edge,
+    }
+}
+
+// The header's line, judged. A refusal ends the walk.
+fn header_line(text: &[u8], at: usize) -> Line
+    requires { ⌜ at ≤ length (now text) ⌝ }
+    ensures { λ r. ⌜ r ≡ headerLineAt (now (text .entry)) at ⌝ }
+{
+    let end = text.len();
+    match line_read::header_at(text, at) {
+        HeaderRead::Broken => bare_line(end, Content::Refused(Refusal::BrokenForm)),
+        HeaderRead::Value(h, next) => {
+            if header_fine(h) {
+                bare_line(next, Content::Header(h))
+            } else {
+                bare_line(end, Content::Refused(Refusal::OutOfRange))
+            }
+        }
+    }
+}
+
 // A place's line in a pattern with `count` places.
 fn place_verdict(count: u8, tests: Tests) -> Verdict
     ensures { λ r. ⌜ r ≡ placeVerdict count tests ⌝ }
@@ -268,26 +315,6 @@ fn place_of(kind: Kind, tests: Tests) -> Place
         kind,
         tests: list,
         count,
-    }
-}
-
-// A place's line that was read, judged.
-fn place_state(end: usize, p: Pattern, line: PlaceRead) -> State
-    ensures { λ r. ⌜ r ≡ placeState end p line ⌝ }
-{
-    let tests = line.tests;
-    let kind = line.kind;
-    let next = line.next;
-    match place_verdict(p.placecount, tests) {
-        Verdict::Faulty(cause) => refused_at(end, cause),
-        Verdict::Fine => {
-            let pattern = put_place(p, place_of(kind, tests));
-            State {
-                at: next,
-                stage: Stage::Places,
-                pattern,
-            }
-        }
     }
 }
 
@@ -329,52 +356,110 @@ fn edge_of(line: EdgeRead) -> Edge
     }
 }
 
-// An edge's line that was read, judged: there must be a place above it.
-fn edge_state(end: usize, p: Pattern, line: EdgeRead) -> State
-    ensures { λ r. ⌜ r ≡ edgeState end p line ⌝ }
+// An edge's line, judged, or 2: there must be a place above it.
+fn edge_line(text: &[u8], at: usize, counts: Counts) -> Line
+    requires { ⌜ at ≤ length (now text) ⌝ }
+    ensures { λ r. ⌜ r ≡ edgeLineAt (now (text .entry)) at counts ⌝ }
 {
+    let end = text.len();
+    let line = line_read::edge_at(text, at, counts.clocks);
     let next = line.next;
-    if p.placecount < 1 {
-        return refused_at(end, Refusal::BrokenForm);
+    if !line.found {
+        return bare_line(end, Content::Refused(Refusal::BrokenForm));
     }
-    match edge_verdict(p.placecount, p.edgecount, line) {
-        Verdict::Faulty(cause) => refused_at(end, cause),
+    if counts.places < 1 {
+        return bare_line(end, Content::Refused(Refusal::BrokenForm));
+    }
+    match edge_verdict(counts.places, counts.edges, line) {
+        Verdict::Faulty(cause) => bare_line(end, Content::Refused(cause)),
         Verdict::Fine => {
-            let pattern = put_edge(p, edge_of(line));
-            State {
+            let place = no_place();
+            let edge = edge_of(line);
+            Line {
                 at: next,
-                stage: Stage::Edges,
-                pattern,
+                content: Content::Edge,
+                place,
+                edge,
             }
         }
     }
 }
 
-// An edge's line, or 2.
-fn edge_turn(text: &[u8], at: usize, p: Pattern) -> State
+// A place's line, judged, or an edge's.
+fn place_line(text: &[u8], at: usize, counts: Counts) -> Line
     requires { ⌜ at ≤ length (now text) ⌝ }
-    ensures { λ r. ⌜ r ≡ edgeTurn (now (text .entry)) at p ⌝ }
+    ensures { λ r. ⌜ r ≡ placeLineAt (now (text .entry)) at counts ⌝ }
 {
     let end = text.len();
-    let line = line_read::edge_at(text, at, p.clocks);
-    if line.found {
-        edge_state(end, p, line)
-    } else {
-        refused_at(end, Refusal::BrokenForm)
+    let line = line_read::place_at(text, at, counts.channels);
+    let tests = line.tests;
+    let kind = line.kind;
+    let next = line.next;
+    if !line.found {
+        return edge_line(text, at, counts);
+    }
+    match place_verdict(counts.places, tests) {
+        Verdict::Faulty(cause) => bare_line(end, Content::Refused(cause)),
+        Verdict::Fine => {
+            let place = place_of(kind, tests);
+            let edge = no_edge();
+            Line {
+                at: next,
+                content: Content::Place,
+                place,
+                edge,
+            }
+        }
     }
 }
 
-// A place's line, or an edge's.
-fn place_turn(text: &[u8], at: usize, p: Pattern) -> State
+// The line that may stand next.
+fn line_at(text: &[u8], at: usize, stage: Stage, counts: Counts) -> Line
     requires { ⌜ at ≤ length (now text) ⌝ }
-    ensures { λ r. ⌜ r ≡ placeTurn (now (text .entry)) at p ⌝ }
+    ensures { λ r. ⌜ r ≡ lineAt (now (text .entry)) stage at counts ⌝ }
 {
-    let end = text.len();
-    let line = line_read::place_at(text, at, p.channels);
-    if line.found {
-        place_state(end, p, line)
-    } else {
-        edge_turn(text, at, p)
+    match stage {
+        Stage::Header => header_line(text, at),
+        Stage::Places => place_line(text, at, counts),
+        Stage::Edges => edge_line(text, at, counts),
+        Stage::Refused(cause) => bare_line(text.len(), Content::Refused(cause)),
+    }
+}
+
+// What a line says, put into the pattern.
+fn put_line(p: Pattern, line: Line) -> State
+    ensures { λ r. ⌜ r ≡ putLine p line ⌝ }
+{
+    let at = line.at;
+    let content = line.content;
+    let place = line.place;
+    let edge = line.edge;
+    match content {
+        Content::Header(h) => {
+            let pattern = header_alone(h);
+            State {
+                at,
+                stage: Stage::Places,
+                pattern,
+            }
+        }
+        Content::Place => {
+            let pattern = put_place(p, place);
+            State {
+                at,
+                stage: Stage::Places,
+                pattern,
+            }
+        }
+        Content::Edge => {
+            let pattern = put_edge(p, edge);
+            State {
+                at,
+                stage: Stage::Edges,
+                pattern,
+            }
+        }
+        Content::Refused(cause) => refused_at(at, cause),
     }
 }
 
@@ -383,12 +468,13 @@ fn turn(text: &[u8], at: usize, stage: Stage, p: Pattern) -> State
     requires { ⌜ at ≤ length (now text) ⌝ }
     ensures { λ r. ⌜ r ≡ turned (now (text .entry)) stage at p ⌝ }
 {
-    match stage {
-        Stage::Header => header_turn(text, at),
-        Stage::Places => place_turn(text, at, p),
-        Stage::Edges => edge_turn(text, at, p),
-        Stage::Refused(cause) => refused_at(text.len(), cause),
-    }
+    let counts = Counts {
+        channels: p.channels,
+        clocks: p.clocks,
+        places: p.placecount,
+        edges: p.edgecount,
+    };
+    put_line(p, line_at(text, at, stage, counts))
 }
 
 // The line at which a reader stands.
