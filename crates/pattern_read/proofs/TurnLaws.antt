@@ -4,12 +4,8 @@ use mathlib.Core.Path.{_≡_, sym, ap, _∙_}
 use mathlib.Core.Bool.{Bool, true, false, cond}
 use lib.ListN.{length}
 use borrow.Author.Tests.{lt-ltb, le-ltb}
-use Rattle.pattern.specs.declared.Refusal.{Refusal}
 use Rattle.pattern.specs.declared.Refusal.the-variants.{BrokenForm, OutOfRange}
-use Rattle.pattern.specs.declared.Place.{Place}
-use Rattle.pattern.specs.declared.Edge.{Edge}
 use Rattle.pattern.specs.declared.Pattern.{Pattern}
-use Rattle.pattern.specs.Sound.{noPlace, noEdge}
 use Rattle.pattern_text.specs.Bytes.{Bytes}
 use Rattle.line_read.specs.declared.Header.{Header}
 use Rattle.line_read.specs.declared.HeaderRead as headerread
@@ -22,7 +18,7 @@ use Rattle.pattern_read.specs.declared.Counts.{Counts}
 use Rattle.pattern_read.specs.declared.Content as content
 use Rattle.pattern_read.specs.declared.Line.{Line}
 use Rattle.pattern_read.specs.declared.PatternRead.{PatternRead}
-use Rattle.pattern_read.specs.declared.Verdict as verdict
+use Rattle.pattern_read.specs.declared.Verdict.{Verdict}
 use Rattle.pattern_read.specs.Turn.{bareLine, ofPlace, ofEdge, refusedLine, headerFine, headerJudged, headerLineAt, ruled, placeVerdict, placeFrom, placeJudged, placeLineAt, edgeVerdict, edgeFrom, edgeJudged, edgeLineAt, put, putLine, refusedOf, settledOf, finished, finishOf}
 
 yes : {A : Type 0} (b : Bool) (x y r : A) → b ≡ true → r ≡ x → r ≡ cond b x y
@@ -62,15 +58,9 @@ module _ (t : Bytes) (at : ℕ) (n : Counts) (line : EdgeRead) (e : line ≡ edg
   unfolding edgeJudged
   edge-early r f k h = edge-there r f (rw (lt-ltb (n .places) 1 k) h)
 
-  edge-ruled : (r : Line) (v : verdict.Verdict) → line .found ≡ true → 1 ≤ n .places → v ≡ edgeVerdict (n .places) (n .edges) line → r ≡ ruled (length t) v (ofEdge (line .next) (edgeFrom line)) → r ≡ edgeLineAt t at n
+  pub edge-ruled : (r : Line) (v : Verdict) → line .found ≡ true → 1 ≤ n .places → v ≡ edgeVerdict (n .places) (n .edges) line → r ≡ ruled (length t) v (ofEdge (line .next) (edgeFrom line)) → r ≡ edgeLineAt t at n
   unfolding edgeJudged
   edge-ruled r v f k g h = edge-there r f (rw (le-ltb (n .places) 1 k) (h ∙ ap (λ v. ruled (length t) v (ofEdge (line .next) (edgeFrom line))) g))
-
-  pub edge-faulty : (x : Refusal) (r : Line) → line .found ≡ true → 1 ≤ n .places → verdict.the-variants.Faulty x ≡ edgeVerdict (n .places) (n .edges) line → r ≡ refusedLine (length t) x → r ≡ edgeLineAt t at n
-  edge-faulty x r f k g h = edge-ruled r (verdict.the-variants.Faulty x) f k g h
-
-  pub edge-good : (q : Place) (l : Edge) → line .found ≡ true → 1 ≤ n .places → verdict.the-variants.Fine ≡ edgeVerdict (n .places) (n .edges) line → q ≡ noPlace → l ≡ edgeFrom line → record { at = line .next; content = content.the-variants.Edge; place = q; edge = l } ≡ edgeLineAt t at n
-  edge-good q l f k g u h = edge-ruled (record { at = line .next; content = content.the-variants.Edge; place = q; edge = l }) verdict.the-variants.Fine f k g (λ i. record { at = line .next; content = content.the-variants.Edge; place = u i; edge = h i })
 
 -- ---- a place's line
 
@@ -79,16 +69,10 @@ module _ (t : Bytes) (at : ℕ) (n : Counts) (line : PlaceRead) (e : line ≡ pl
   unfolding placeLineAt
   place-absent r f h = rw (ap (λ (x : PlaceRead). x .found) (sym e) ∙ f) h
 
-  place-ruled : (r : Line) (v : verdict.Verdict) → line .found ≡ true → v ≡ placeVerdict (n .places) (line .tests) → r ≡ ruled (length t) v (ofPlace (line .next) (placeFrom (line .kind) (line .tests))) → r ≡ placeLineAt t at n
+  pub place-ruled : (r : Line) (v : Verdict) → line .found ≡ true → v ≡ placeVerdict (n .places) (line .tests) → r ≡ ruled (length t) v (ofPlace (line .next) (placeFrom (line .kind) (line .tests))) → r ≡ placeLineAt t at n
   unfolding placeLineAt placeJudged
   place-ruled r v f g h = yes (placeAt (n .channels) t at .found) (placeJudged (length t) (n .places) (placeAt (n .channels) t at)) (edgeLineAt t at n) r (ap (λ (x : PlaceRead). x .found) (sym e) ∙ f)
       (h ∙ ap (λ v. ruled (length t) v (ofPlace (line .next) (placeFrom (line .kind) (line .tests)))) g ∙ ap (placeJudged (length t) (n .places)) e)
-
-  pub place-faulty : (x : Refusal) (r : Line) → line .found ≡ true → verdict.the-variants.Faulty x ≡ placeVerdict (n .places) (line .tests) → r ≡ refusedLine (length t) x → r ≡ placeLineAt t at n
-  place-faulty x r f g h = place-ruled r (verdict.the-variants.Faulty x) f g h
-
-  pub place-good : (l : Place) (q : Edge) → line .found ≡ true → verdict.the-variants.Fine ≡ placeVerdict (n .places) (line .tests) → l ≡ placeFrom (line .kind) (line .tests) → q ≡ noEdge → record { at = line .next; content = content.the-variants.Place; place = l; edge = q } ≡ placeLineAt t at n
-  place-good l q f g h u = place-ruled (record { at = line .next; content = content.the-variants.Place; place = l; edge = q }) verdict.the-variants.Fine f g (λ i. record { at = line .next; content = content.the-variants.Place; place = h i; edge = u i })
 
 -- ---- by the content
 

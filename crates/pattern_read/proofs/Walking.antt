@@ -61,6 +61,10 @@ not-empty (y ∷ ys) x = refl
 clash {ℓ} : {X : Type ℓ} {A : Type 0} {x : A} {r : Bytes} → broken ≡ got x r → X
 clash e = let z : _≡_ {A = ℕ} 0 1 = cc in absurd (omega arith)
 
+-- a header's line as it is read
+abbrev headerRead : Header → ℕ → Line
+headerRead h n = bareLine n (content.the-variants.Header (heldHeader h))
+
 module _ (t : Bytes) (a : Answer) (at : ℕ) (inside : at < length t) where
   -- a refusal
   stops : (p : Pattern) (r : Refusal) → a ≡ refused r → Onward t a at (putLine p (refusedLine (length t) r))
@@ -78,10 +82,6 @@ module _ (t : Bytes) (a : Answer) (at : ℕ) (inside : at < length t) where
   ruled-on (some x) c l d q line r b p e f g h k m = stops q x e
 
   -- ---- the header
-
-  -- a header's line as it is read
-  abbrev headerRead : Header → ℕ → Line
-  headerRead h n = bareLine n (content.the-variants.Header (heldHeader h))
 
   header-ruled : (h : Header) (n : ℕ) → cond (headerFine (heldHeader h)) (headerRead h n) (refusedLine (length t) OutOfRange) ≡ ruled (length t) (verdict (headerFault h)) (headerRead h n)
   unfolding headerFault judged

@@ -75,7 +75,7 @@ pub struct State {
     pub pattern: Pattern,
 }
 
-// What a line's judgement needs of the pattern above it: how many there are of each.
+// What a line is judged by: how many channels, clocks, places and edges the lines above it gave.
 pub struct Counts {
     pub channels: u8,
     pub clocks: u8,
@@ -90,8 +90,8 @@ pub enum Content {
     Refused(Refusal),
 }
 
-// A line, judged, and where the next one begins: it is copied from function to function, where a pattern is large.
-// The place and the edge stand beside the content, zeros throughout where they are not meant.
+// A line, judged, and where the next one begins: small, so that a pattern is copied only where a line is put into it.
+// The place and the edge stand beside the content, zeros throughout but for the one that it names.
 pub struct Line {
     pub at: usize,
     pub content: Content,

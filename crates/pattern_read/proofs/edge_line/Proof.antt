@@ -1,7 +1,8 @@
 -- `edge_line` meets its contract.
 use mathlib.Core.Path.{sym, _∙_}
 use borrow.Author.Tests.{not-true, not-false}
-use Rattle.pattern_read.proofs.TurnLaws.{edge-absent, edge-early, edge-faulty, edge-good}
+use Rattle.pattern_read.specs.declared.Content.the-variants.{Edge}
+use Rattle.pattern_read.proofs.TurnLaws.{edge-absent, edge-early, edge-ruled}
 use borrow.Author.Needs.{needs}
 use Rattle.pattern_read.proofs.edge_line.Statement.{statement}
 use Rattle.pattern_read.proofs.edge_line.Tie as tie
@@ -47,13 +48,13 @@ returns-3 : tie.Need-returns-3
 returns-3 c =
     let v = c .before .before .before .before in
     let b = v .before .before .before .before .before in
-    edge-faulty _ _ (b .before .before .args .counts) _ (b .edge-at .ensures) _ _ (not-false (b .edge-at .result .found) (v .before .before .before .if1 .left)) (v .before .if2 .left) (sym (c .before .before .cause .given .1) ∙ v .edge-verdict .ensures) (c .bare-line3 .ensures)
+    edge-ruled _ _ (b .before .before .args .counts) _ (b .edge-at .ensures) _ _ (not-false (b .edge-at .result .found) (v .before .before .before .if1 .left)) (v .before .if2 .left) (sym (c .before .before .cause .given .1) ∙ v .edge-verdict .ensures) (c .bare-line3 .ensures)
 
 returns-4 : tie.Need-returns-4
 returns-4 c =
     let v = c .before .before .before .before in
     let b = v .before .before .before .before .before in
-    edge-good _ _ (b .before .before .args .counts) _ (b .edge-at .ensures) _ _ (not-false (b .edge-at .result .found) (v .before .before .before .if1 .left)) (v .before .if2 .left) (sym (c .before .before .enum-told .given .1) ∙ v .edge-verdict .ensures) (c .before .no-place .ensures) (c .edge-of .ensures)
+    edge-ruled _ _ (b .before .before .args .counts) _ (b .edge-at .ensures) _ _ (not-false (b .edge-at .result .found) (v .before .before .before .if1 .left)) (v .before .if2 .left) (sym (c .before .before .enum-told .given .1) ∙ v .edge-verdict .ensures) (λ i. record { at = b .edge-at .result .next; content = Edge; place = c .before .no-place .ensures i; edge = c .edge-of .ensures i })
 
 pub edge-line-spec : {M : Type 1} → statement M
 edge-line-spec =

@@ -1,7 +1,8 @@
 -- `place_line` meets its contract.
 use mathlib.Core.Path.{sym, _∙_}
 use borrow.Author.Tests.{not-true, not-false}
-use Rattle.pattern_read.proofs.TurnLaws.{place-absent, place-faulty, place-good}
+use Rattle.pattern_read.specs.declared.Content.the-variants.{Place}
+use Rattle.pattern_read.proofs.TurnLaws.{place-absent, place-ruled}
 use borrow.Author.Needs.{needs}
 use Rattle.pattern_read.proofs.place_line.Statement.{statement}
 use Rattle.pattern_read.proofs.place_line.Tie as tie
@@ -39,13 +40,13 @@ returns-2 : tie.Need-returns-2
 returns-2 c =
     let v = c .before .before .before .before in
     let b = v .before .before .before .before in
-    place-faulty _ _ (b .before .before .args .counts) _ (b .place-at .ensures) _ _ (not-false (b .place-at .result .found) (v .before .if1 .left)) (sym (c .before .before .cause .given .1) ∙ v .place-verdict .ensures) (c .bare-line .ensures)
+    place-ruled _ _ (b .before .before .args .counts) _ (b .place-at .ensures) _ _ (not-false (b .place-at .result .found) (v .before .if1 .left)) (sym (c .before .before .cause .given .1) ∙ v .place-verdict .ensures) (c .bare-line .ensures)
 
 returns-3 : tie.Need-returns-3
 returns-3 c =
     let v = c .before .before .before .before in
     let b = v .before .before .before .before in
-    place-good _ _ (b .before .before .args .counts) _ (b .place-at .ensures) _ _ (not-false (b .place-at .result .found) (v .before .if1 .left)) (sym (c .before .before .enum-told .given .1) ∙ v .place-verdict .ensures) (c .before .place-of .ensures) (c .no-edge .ensures)
+    place-ruled _ _ (b .before .before .args .counts) _ (b .place-at .ensures) _ _ (not-false (b .place-at .result .found) (v .before .if1 .left)) (sym (c .before .before .enum-told .given .1) ∙ v .place-verdict .ensures) (λ i. record { at = b .place-at .result .next; content = Place; place = c .before .place-of .ensures i; edge = c .no-edge .ensures i })
 
 pub place-line-spec : {M : Type 1} → statement M
 place-line-spec =
