@@ -236,31 +236,29 @@ fn header_alone(h: Header) -> Pattern
 }
 
 // One place more, if there is room.
-fn put_place(p: Pattern, place: Place) -> Pattern
+fn put_place(mut p: Pattern, place: Place) -> Pattern
     ensures { λ r. ⌜ r ≡ putPlace p place ⌝ }
 {
-    let mut r = p;
     let count = p.placecount;
     let n = count as usize;
     if n < 16 {
-        r.places[n] = place;
-        r.placecount = count + 1;
+        p.places[n] = place;
+        p.placecount = count + 1;
     }
-    r
+    p
 }
 
 // One edge more, if there is room.
-fn put_edge(p: Pattern, edge: Edge) -> Pattern
+fn put_edge(mut p: Pattern, edge: Edge) -> Pattern
     ensures { λ r. ⌜ r ≡ putEdge p edge ⌝ }
 {
-    let mut r = p;
     let count = p.edgecount;
     let n = count as usize;
     if n < 32 {
-        r.edges[n] = edge;
-        r.edgecount = count + 1;
+        p.edges[n] = edge;
+        p.edgecount = count + 1;
     }
-    r
+    p
 }
 
 // A line that holds neither a place nor an edge.

@@ -15,16 +15,16 @@ mul-edge c = search needs
 element-set-from-edge : tie.Need-element-set-from-edge
 element-set-from-edge c = search needs
 
-add-r : tie.Need-add-r
-add-r c = search needs
+add-p : tie.Need-add-p
+add-p c = search needs
 
 returns : tie.Need-returns
 unfolding putEdge
-returns c = rw (lt-ltb (c .before .args .p .edgecount) 32 (c .if1 .taken)) refl
+returns c = rw (lt-ltb _ 32 (c .if1 .taken)) refl
 
 returns-2 : tie.Need-returns-2
 unfolding putEdge
-returns-2 c = rw (le-ltb (c .before .args .p .edgecount) 32 (c .if1 .left)) refl
+returns-2 c = rw (le-ltb _ 32 (c .if1 .left)) refl
 
 pub put-edge-spec : {M : Type 1} → statement M
-put-edge-spec = tie.close (tie.spec cast-n mul-edge element-set-from-edge add-r returns returns-2)
+put-edge-spec = tie.close (tie.spec cast-n mul-edge element-set-from-edge add-p returns returns-2)

@@ -15,17 +15,17 @@ mul-place c = search needs
 element-set-from-place : tie.Need-element-set-from-place
 element-set-from-place c = search needs
 
-add-r : tie.Need-add-r
-add-r c = search needs
+add-p : tie.Need-add-p
+add-p c = search needs
 
 returns : tie.Need-returns
 unfolding putPlace
-returns c = rw (lt-ltb (c .before .args .p .placecount) 16 (c .if1 .taken)) refl
+returns c = rw (lt-ltb _ 16 (c .if1 .taken)) refl
 
 returns-2 : tie.Need-returns-2
 unfolding putPlace
-returns-2 c = rw (le-ltb (c .before .args .p .placecount) 16 (c .if1 .left)) refl
+returns-2 c = rw (le-ltb _ 16 (c .if1 .left)) refl
 
 pub put-place-spec : {M : Type 1} → statement M
 put-place-spec =
-    tie.close (tie.spec cast-n mul-place element-set-from-place add-r returns returns-2)
+    tie.close (tie.spec cast-n mul-place element-set-from-place add-p returns returns-2)
