@@ -170,6 +170,7 @@ putEdge p edge = record {
 unfoldable pub refusedAt : ℕ → Refusal → State
 refusedAt end r = record { at = end; stage = stage.the-variants.Refused r; pattern = noPattern }
 
+-- what a line holds, put into the pattern; after an edge no place may come
 abbrev pub put : Pattern → Line → content.Content → State
 put p line (content.the-variants.Header h) = record { at = line .at; stage = Places; pattern = headerAlone h }
 put p line content.the-variants.Place = record { at = line .at; stage = Places; pattern = putPlace p (line .place) }
@@ -181,6 +182,7 @@ putLine p line = put p line (line .content)
 
 -- ---- a turn
 
+-- what the next line is judged by
 abbrev pub countsOf : Pattern → Counts
 countsOf p = record { channels = p .channels; clocks = p .clocks; places = p .placecount; edges = p .edgecount }
 

@@ -1,8 +1,6 @@
 // Read a pattern (document 01, 'Read a pattern'): a walk from line to line that fills the pattern in place.
 ghost use mathlib.Core.Path.{_≡_};
-ghost use mathlib.Core.Bool.{_&&_};
 ghost use Prim.Native.Nat.{_≤_};
-ghost use lib.Dec.{leb, ltb};
 ghost use lib.ListN.{length};
 ghost use mathlib.Core.Option.{none};
 ghost use Rattle.pattern.specs.Sound.{noPlace, noEdge};
@@ -31,13 +29,10 @@ ghost use Rattle.pattern_read.specs.Turn.{
   finishOf,
   startState,
 };
-use line_lists::Guards;
-use line_lists::Resets;
 use line_lists::Tests;
 use line_read::EdgeRead;
 use line_read::Header;
 use line_read::HeaderRead;
-use line_read::PlaceRead;
 use pattern::Edge;
 use pattern::Guard;
 use pattern::Kind;
@@ -99,6 +94,7 @@ pub struct Line {
     pub edge: Edge,
 }
 
+// Zeros throughout, as the two below.
 fn no_place() -> Place
     ensures { λ r. ⌜ r ≡ noPlace ⌝ }
 {
@@ -261,7 +257,7 @@ fn put_edge(mut p: Pattern, edge: Edge) -> Pattern
     p
 }
 
-// A line that holds neither a place nor an edge.
+// A line with neither a place nor an edge: a header's, or a refusal, which stands at the text's end.
 fn bare_line(at: usize, content: Content) -> Line
     ensures { λ r. ⌜ r ≡ bareLine at content ⌝ }
 {
@@ -275,7 +271,7 @@ fn bare_line(at: usize, content: Content) -> Line
     }
 }
 
-// The header's line, judged. A refusal ends the walk.
+// The header's line, judged.
 fn header_line(text: &[u8], at: usize) -> Line
     requires { ⌜ at ≤ length (now text) ⌝ }
     ensures { λ r. ⌜ r ≡ headerLineAt (now (text .entry)) at ⌝ }
@@ -424,7 +420,7 @@ fn line_at(text: &[u8], at: usize, stage: Stage, counts: Counts) -> Line
     }
 }
 
-// What a line says, put into the pattern.
+// What a line holds, put into the pattern; after an edge no place may come.
 fn put_line(p: Pattern, line: Line) -> State
     ensures { λ r. ⌜ r ≡ putLine p line ⌝ }
 {
