@@ -4,7 +4,7 @@ use native.Mathlib.Omega.{arith}
 use native.Mathlib.Numerals.{add-one}
 use mathlib.Core.Path.{_≡_, refl, sym, ap, ap₂, _∙_}
 use mathlib.Core.List.{List, [], _∷_, map}
-use mathlib.Core.Bool.{Bool, true, false, _&&_, _||_}
+use mathlib.Core.Bool.{Bool, true, false, _&&_, _||_, and-true}
 use lib.Dec.{leb, ltb}
 use lib.ListN.{length, take, set}
 use lib.Seq.{take-all}
@@ -102,10 +102,6 @@ and-assoc false b c = refl
 pub added-known : (clocks : ℕ) → clocks ≤ 255 → (s : Resets) (cs : List ℕ) → added clocks s cs .known ≡ s .known && rising (s .least) clocks cs
 unfolding addReset rising
 added-known clocks few s [] = sym (and-true (s .known))
-  where
-    and-true : (a : Bool) → a && true ≡ a
-    and-true true = refl
-    and-true false = refl
 added-known clocks few s (c ∷ cs) =
     added-known clocks few (addReset clocks s (min cap c)) cs ∙ by-test (ltb c clocks)
     (λ t. let k = ltb-true c clocks t in let m : min cap c ≡ c = omega arith in rw (m, add-one c) (and-assoc (s .known) (leb (s .least) c && ltb c clocks) (rising (suc c) clocks cs)))

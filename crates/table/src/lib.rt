@@ -1,7 +1,7 @@
-// The moves of one occupied cell of a monitor's table in a tick (document 01, 'Monitor tables'): its clocks and its worth are moved
-// by a tick; it stays, and goes along the edges out of its place whose guards hold. What is offered to an end place just
-// entered is noted for the report as it is offered. A second slice has a flag for each block: a mark where all its cells are
-// marks, so that it need not be looked at.
+// The moves of one occupied cell of a monitor's table in a tick (document 01, 'Monitor tables'): its clocks and its worth are
+// moved by a tick; it stays, and goes along the edges out of its place whose guards hold. What is offered to an end place
+// just entered is noted for the report as it is offered. A second slice has a flag for each block: a mark where all its cells
+// are marks, so that it need not be looked at.
 pub mod report;
 
 use self::report::Report;
