@@ -1,6 +1,4 @@
--- Laws of the ticks ahead, of a stay and of a run, which pricing rests on; answers in numbers; how large scores come.
-pub mod AheadLaws
-pub mod WalkLaws
-pub mod RunLaws
+-- Laws of a whole run, which pricing rests on; answers in numbers; how large scores come.
+pub mod WholeLaws
 pub mod Numbers
 pub mod Scores

@@ -35,7 +35,7 @@ use Rattle.record.proofs.PriceLaws.{priced-parts}
 use Rattle.price.specs.declared.Priced.{Priced}
 use Rattle.price.specs.declared.Priced.the-variants.{Score, Refused}
 use Rattle.price.specs.Price.{stepsFit, scored, pricedOf, largestScore, ScoresInRange}
-use Rattle.price.proofs.RunLaws.{edge-at-sound}
+use Rattle.price_runs.proofs.RunLaws.{edge-at-sound}
 
 abbrev Sized : Weighing → ℕ → ℤ → Type 0
 Sized w n z = natAbs z ≤ largestScore w n

@@ -1,4 +1,3 @@
--- Price is the operation. Walk and Stand are about the code alone.
+-- Price is the operation. Whole is about the code alone.
 pub mod Price
-pub mod Walk
-pub mod Stand
+pub mod Whole

@@ -1,0 +1,2 @@
+-- Laws of a run, step by step.
+pub mod RunLaws

@@ -1,0 +1,2 @@
+-- About the code alone.
+pub mod Stand
