@@ -42,8 +42,8 @@
  *   - A slice that is not const overlaps no other slice of the call, whatever the call then does, and no other thread reads or
  *     writes it during the call. Nobody writes the const ones during the call; they may overlap each other.
  *   - Nothing is kept between calls, nothing is allocated, and nothing is written but what is said below and the
- *     function's own part of the stack (28 kilobytes were seen; tests/hostile measures it), so any number of threads
- *     may call at a time.
+ *     function's own part of the stack (some 28 kilobytes, measured by tests/hostile), so any number of threads may call at
+ *     a time.
  *   - Every content of the slices is answered. A call is done, or it is refused: then nothing lent is altered, and the number
  *     of the refusal says the first cause in the order that is given for the function. pattern_check, monitor_open and
  *     monitor_feed return that number, or 0 when done; run_price and record_best return it as `refusal`, beside zeros;
@@ -62,7 +62,7 @@ extern "C" {
 /* Why a call is refused. On the first faulty line of a pattern text the causes are tried in the order 2, 4, 3, 5. */
 enum {
     PATTERN_ACCEPTED = 0,
-    TEXT_TOO_LONG = 1,         /* over PATTERN_TEXT_MAX bytes; a program that reads record texts has its own limit */
+    TEXT_TOO_LONG = 1,         /* over PATTERN_TEXT_MAX bytes */
     TEXT_BROKEN = 2,           /* the form is broken: also empty text, a missing line feed, a line of the wrong kind,
                                   no place at all */
     PATTERN_OUT_OF_RANGE = 3,  /* a number outside its range */
@@ -146,9 +146,9 @@ struct run_price {
  * `begin` in a start place; step i stays stays[i] ticks, at least 1, and then takes edge edges[i], counted from 0 as in
  * the text; the last edge enters an end place. The pattern's window does not count. Nothing lent is written.
  *
- * Refused, in this order: 1 to 5 for the text; RECORD_BROKEN; RUN_BROKEN; RUN_IMPOSSIBLE, also for a first edge out of no start
- * place, an edge that does not leave the place where the run is, or whose guards do not hold, a last edge that enters no end
- * place, or a stay of 0 ticks. */
+ * Refused, in this order: 1 to 5 for the text; RECORD_BROKEN; RUN_BROKEN; RUN_IMPOSSIBLE, also for an edge that the pattern lacks,
+ * a first edge out of no start place, an edge that does not leave the place where the run is, or whose guards do not hold, a
+ * last edge that enters no end place, or a stay of 0 ticks. */
 struct run_price run_price(const uint8_t *text, size_t length, const uint32_t *durations, size_t durations_length,
                            const int32_t *values, size_t values_length, uint32_t begin, const uint32_t *edges,
                            size_t edges_length, const uint32_t *stays, size_t stays_length);

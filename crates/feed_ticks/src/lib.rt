@@ -1,5 +1,5 @@
-// The ticks of a piece over the cells: what is the same for all of them is made once, then each tick is told; and a last
-// report told again.
+// The ticks of a piece over the cells: what a tick gains in each place, in the first tick and in later ones; each tick told;
+// and a last report told again.
 use cells::Layout;
 use pattern::Edge;
 use pattern::Kind;

@@ -1,4 +1,5 @@
-// Read a pattern (document 01, 'Read a pattern'): a walk from line to line that fills the pattern in place.
+// Read a pattern (document 01, 'Read a pattern'): a walk from line to line. Each line is judged, and then what it holds is put
+// into the pattern.
 ghost use mathlib.Core.Path.{_≡_};
 ghost use Prim.Native.Nat.{_≤_};
 ghost use lib.ListN.{length};

@@ -28,6 +28,6 @@ holdsState l = leb 9 (length l) && isTicks (getD l 0 (pos 0)) && all isValue (la
 abbrev pub stateIn : List ℤ → State
 stateIn l = record { ticks = natAbs (getD l 0 (pos 0)); last = lastIn l }
 
--- The slice once a state was written into it; "further cells are untouched" is said of the state's slice too.
+-- The slice once a state was written into it; entries past the state's nine are untouched.
 abbrev pub withState : State → List ℤ → List ℤ
 withState s l = pos (s .ticks) ∷ (s .last ++ drop 9 l)

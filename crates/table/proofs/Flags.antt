@@ -249,6 +249,10 @@ module _ (l : Layout) (laid : Laid l) (t f : List ℤ) (b : ℕ) (h : Block l b)
   pub wiped-none : ltZ mark (cellAt f b) ≡ false → marked t (b * l .block) (l .block) ≡ t
   wiped-none m = marked-none t (b * l .block) (l .block) (λ j v. k .marks b j h v m)
 
+  -- a block that holds only marks may have a mark for its flag
+  pub flagged-empty : ((j : ℕ) → j < l .block → cellAt t (b * l .block + j) ≡ mark) → Marked l t f (set f b mark)
+  flagged-empty m = rw (marked-none t (b * l .block) (l .block) m) at flagged-wiped
+
 -- ---- all flags
 
 -- as many blocks as a table has

@@ -14,6 +14,7 @@ use lib.IntN.{ℤ, natAbs}
 use lib.Signed.{ltZ}
 use mir.Syntax.{w64}
 use mir.Val.{SFits}
+use Rattle.integers.proofs.Linear.{of-lt, abs-is, negsuc-is}
 use Rattle.weighting.specs.declared.Weighing.{Weighing}
 use Rattle.weighting.specs.Weightings.{weightingOf}
 use Rattle.weighting.specs.Cell.{mark}
@@ -39,6 +40,14 @@ use Rattle.table.proofs.Kept.{Kept, row-kept, marked-kept, pass-kept}
 pub sized-in : {k : ℕ} {z : ℤ} → Sized k z → ltZ mark z ≡ true → natAbs z ≤ k
 sized-in {k} {z} (inl e) h = let n : _≡_ {A = Bool} false true = rw e at h in let y : _≡_ {A = ℕ} 0 1 = cc in absurd (omega arith)
 sized-in (inr s) h = s
+
+pub sized-mark : {k : ℕ} {z : ℤ} → k < 2 ^ 63 → Sized k z → ltZ mark z ≡ false → z ≡ mark
+sized-mark l (inl e) h = e
+sized-mark {k} {z} l (inr s) h =
+    let t = of-lt mark z (omega (arith, abs-is z, negsuc-is 9_223_372_036_854_775_807)) in
+    let y : _≡_ {A = Bool} true false = sym t ∙ h in
+    let n : _≡_ {A = ℕ} 0 1 = cc in
+    absurd (omega arith)
 
 pub sized-more : {k m : ℕ} {z : ℤ} → k ≤ m → Sized k z → Sized m z
 sized-more l (inl e) = inl e

@@ -143,7 +143,7 @@ fn visits(
     best
 }
 
-// The block, unless its place cannot be stayed in or no cell of it is occupied.
+// The block, unless its place cannot be stayed in or no cell of it is occupied. If none is, its flag says so from now on.
 pub fn pass(
     table: &mut [i64],
     flags: &mut [i64],
@@ -190,6 +190,7 @@ pub fn pass(
                     r,
                 );
             }
+            flags[flag] = MARK;
         }
     }
     r

@@ -13,7 +13,6 @@ use lib.ListN.{length, set}
 use lib.Seq.{getD-set-same, getD-set-other}
 use lib.IntN.{ℤ, pos, natAbs}
 use lib.Signed.{ltZ}
-use Rattle.integers.proofs.Linear.{of-lt, abs-is, negsuc-is}
 use Rattle.weighting.specs.declared.Weighing.{Weighing}
 use Rattle.weighting.specs.Order.{IsBest, choose}
 use Rattle.weighting.specs.Weightings.{weightingOf}
@@ -33,7 +32,7 @@ use Rattle.steps.specs.Steps.{edgeIn}
 use Rattle.table.specs.Moves.{cellAt, marked, cleared, each, offered, moved, still, leaveOf, leavesOf, spreadOf, visitOf, visitsOf, passOf, gainAt, placeOf, placesOf, rowOf, rowsOf}
 use Rattle.table.specs.Asks.{Sized, Known, Bounded, Passing, Ready}
 use Rattle.table.proofs.Kept.{Kept, kept-trans, kept-each, turn-kept, leave-kept, visit-kept, pass-kept, place-kept, marked-kept, marked-long, row-kept}
-use Rattle.table.proofs.Steps.{sized-in, bounded-kept, pass-asks, bounded-from}
+use Rattle.table.proofs.Steps.{sized-in, sized-mark, bounded-kept, pass-asks, bounded-from}
 use Rattle.table_laws.specs.Offers.{Moves, Passes, stageOf, gainsOf, Follows, Goes, RowOffers}
 
 -- cell j of u holds the best of what cell j of t held and what has Q
@@ -108,14 +107,6 @@ module _ (w : Weighing) (j b : ℕ) (f : ℕ → List ℤ → List ℤ) (kept : 
           inr (subst (λ (i : ℕ). Q i x) e (p .has))
 
 -- ---- what is held
-
-pub sized-held : {k : ℕ} {z : ℤ} → k < 2 ^ 63 → Sized k z → ltZ mark z ≡ false → z ≡ mark
-sized-held l (inl e) h = e
-sized-held {k} {z} l (inr s) h =
-    let t = of-lt mark z (omega (arith, abs-is z, negsuc-is 9_223_372_036_854_775_807)) in
-    let y : _≡_ {A = Bool} true false = sym t ∙ h in
-    let n : _≡_ {A = ℕ} 0 1 = cc in
-    absurd (omega arith)
 
 pub not-held : {z x : ℤ} → z ≡ mark → heldIn z ≡ some x → ⊥
 not-held {z} {x} e h = Option·none-ne-some x (sym heldIn-mark ∙ ap heldIn (sym e) ∙ h)
@@ -217,7 +208,7 @@ module _ (l : Layout) (w : Weighing) (es : List Edge) (count : ℕ) (g : ℤ) (n
 
       by : (a : Bool) → ltZ mark v ≡ a → Offers w u (cond a (spreadOf l w es count n p cs x u) u) j (Visits l w es count g n p at t j k)
       by false m =
-          let h : cellAt t (at + k) ≡ mark = sized-held (omega arith) sized (rw same at m) in
+          let h : cellAt t (at + k) ≡ mark = sized-mark (omega arith) sized (rw same at m) in
           offers-none w j u (Visits l w es count g n p at t j k) (λ y. ⊎-elim (λ o. not-held h (o .holds)) (λ o. not-held h (o .has .moves .holds)))
       by true m =
           let small : natAbs (cellAt u (at + k)) ≤ 2 ^ 60 = rw same (sized-in sized (rw same at m)) in
@@ -242,7 +233,7 @@ pass-offers l w es count g n p at t u j kept a low = by (ltZ mark g) refl
     by : (b : Bool) → ltZ mark g ≡ b → Offers w u (cond b (visitsOf l w es count g n p at (l .block) u) u) j (Any (l .block) (Visits l w es count g n p at t j))
     by true m = visits-offers l w es count g n p at t j (sized-in (a .gain) m) (above-mark g m) (l .block) u kept (a .apart) (a .bounded) low
     by false m =
-        let h : g ≡ mark = sized-held (omega arith) (a .gain) m in
+        let h : g ≡ mark = sized-mark (omega arith) (a .gain) m in
         offers-none w j u (Any (l .block) (Visits l w es count g n p at t j)) (λ x q. ⊎-elim (λ o. not-held h (o .gains)) (λ o. not-held h (o .has .moves .gains)) (q .has))
 
 -- ---- a place, a row

@@ -40,11 +40,11 @@ use Rattle.steps.specs.Steps.{edgeIn}
 use Rattle.table.specs.Moves.{cellAt, each, gainAt}
 use Rattle.table.specs.Reports.{noReport, noted, toldMove, toldLeave, toldVisit, toldVisits, toldPass, toldPlace, toldPlaces, tellsAt, toldRow, toldRows, toldOf}
 use Rattle.table.specs.Asks.{Sized, Known, Ticking, Bounded, Ready}
-use Rattle.table.proofs.Steps.{pass-asks, bounded-from, whole-rows}
+use Rattle.table.proofs.Steps.{sized-mark, pass-asks, bounded-from, whole-rows}
 use Rattle.table_laws.specs.Offers.{Moves, stageOf, gainsOf, Goes}
 use Rattle.table_laws.specs.Meaning.{stateAt, resultOf, About, Seen, Viewed}
 use Rattle.table_laws.specs.Claims.{ToldIsReport}
-use Rattle.table_laws.proofs.Best.{sized-held, not-held, true-false}
+use Rattle.table_laws.proofs.Best.{not-held, true-false}
 use Rattle.table_laws.proofs.States.{in-seen}
 use Rattle.table_laws.proofs.Tick.{edge-state, stay-state, to-walks, of-walks}
 
@@ -204,7 +204,7 @@ module _ (l : Layout) (w : Weighing) (es : List Edge) (count : ℕ) (tells : Lis
 
       by : (b : Bool) → ltZ mark v ≡ b → Notes w r (cond b (each (λ i. toldLeave w tells n p cs x (edgeIn es i)) count r) r) (n + 1) (Leaving l w es count tells g n p at t k)
       by false m =
-          let h : cellAt t (at + k) ≡ mark = sized-held (omega arith) sized m in
+          let h : cellAt t (at + k) ≡ mark = sized-mark (omega arith) sized m in
           notes-none w r (n + 1) (Leaving l w es count tells g n p at t k) (λ q z. not-held h (z .moves .holds))
       by true m =
           let held : heldIn v ≡ some v = above-mark v m in
@@ -247,7 +247,7 @@ module _ (l : Layout) (w : Weighing) (es : List Edge) (count : ℕ) (tells : Lis
     where
       by : (q : ℤ × ℕ) → Any (l .block) (Leaving l w es count tells g n p at t) q → (b : Bool) → ltZ mark g ≡ b → ltZ mark g ≡ true
       by q z true e = e
-      by q z false e = absurd (not-held (sized-held (omega arith) small e) (z .has .moves .gains))
+      by q z false e = absurd (not-held (sized-mark (omega arith) small e) (z .has .moves .gains))
 
 -- ---- a place, a row, all rows
 

@@ -148,7 +148,7 @@ fn tells_at(ends: [bool; 16], low: usize, ticks: usize) -> [bool; 16]
     if ticks < low { [false; 16] } else { ends }
 }
 
-// The mark in all cells of block b, which has `size` cells, unless they are marks.
+// The mark in all cells of block b, unless its flag says that they are marks.
 fn wipe_block(table: &mut [i64], flags: &mut [i64], l: Layout, b: usize)
     requires { ⌜ (Laid l) × (cellsIn l ≤ length (now table)) × (Flagged l (now table) (now flags)) × (Block l b) ⌝ }
     ensures { λ _. ⌜ now (table .exit) ≡ marked (now (table .entry)) (b * l .block) (l .block) ⌝ }

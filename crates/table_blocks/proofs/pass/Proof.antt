@@ -1,5 +1,5 @@
--- `pass` visits a block, unless the gain is the mark or all its cells are.
-use Prim.Native.Nat.{ℕ, _+_, _≤_, _<_, zero-le}
+-- `pass` visits a block, unless the gain is the mark or all its cells are; in the latter case its flag is one, too.
+use Prim.Native.Nat.{ℕ, _+_, _*_, _≤_, _<_, zero-le}
 use native.Mathlib.Omega.{arith}
 use mathlib.Core.Path.{_≡_, refl}
 use mathlib.Core.Bool.{false}
@@ -12,9 +12,9 @@ use mir.Facts.{toZ-ofZ}
 use Rattle.weighting.specs.Cell.{mark}
 use Rattle.cells.proofs.Blocks.{row-fits}
 use Rattle.table.specs.Moves.{cellAt, each}
-use Rattle.table.proofs.Steps.{pass-is, pass-no, visits-skip}
+use Rattle.table.proofs.Steps.{sized-mark, pass-is, pass-no, visits-skip}
 use Rattle.table.proofs.Told.{told-pass, told-pass-no, told-skip}
-use Rattle.table.proofs.Flags.{block-lt, marked-refl, empty-block}
+use Rattle.table.proofs.Flags.{block-lt, marked-refl, flagged-empty, empty-block}
 use borrow.Author.Needs.{needs}
 use Rattle.table_blocks.proofs.pass.Statement.{statement}
 use Rattle.table_blocks.proofs.pass.Tie as tie
@@ -55,8 +55,23 @@ returns c = let st = c .before .before .before .before .before .before .before .
     let e = c .before .before .visits .ensures in
     (told-pass (a .l) (a .w) (a .edges) (a .count) (a .tells .now) (a .gain) (a .n) (a .p) (a .at) (a .table .now) (a .r) _ m (rw q at (e .0)), (pass-is (a .l) (a .w) (a .edges) (a .count) (a .gain) (a .n) (a .p) (a .at) (a .table .now) _ m (rw q at (e .1 .0)), e .1 .1))
 
+mul-flags : tie.Need-mul-flags
+mul-flags c = let st = c .before .before .before .before .before .before .before .before in
+    let h = block-lt (st .args .l) (st .args .flag) (st .pre .0 .laid) (st .pre .3 .block) in
+    let s = st .pre .0 .laid .small in
+    omega arith
+
+slice-set-of-flags : tie.Need-slice-set-of-flags
+slice-set-of-flags c = let st = c .before .before .before .before .before .before .before .before in
+    let h = block-lt (st .args .l) (st .args .flag) (st .pre .0 .laid) (st .pre .3 .block) in
+    let s = st .pre .2 .long in
+    omega arith
+
 same-length-3 : tie.Need-same-length-3
 same-length-3 c = search needs
+
+same-length-4 : tie.Need-same-length-4
+same-length-4 c = search needs
 
 returns-2 : tie.Need-returns-2
 unfolding each
@@ -66,7 +81,8 @@ returns-2 c = let st = c .before .before .before .before .before .before .before
     let o = c .before .before .before .occupied .ensures in
     let up = o .below in
     let none : (j : ℕ) → 0 ≤ j → j < a .l .block → ltZ mark (cellAt (a .table .now) (a .at + j)) ≡ false = λ j x y. o .skips j x (omega arith) in
-    (told-pass (a .l) (a .w) (a .edges) (a .count) (a .tells .now) (a .gain) (a .n) (a .p) (a .at) (a .table .now) (a .r) _ m (told-skip (a .l) (a .w) (a .edges) (a .count) (a .tells .now) (a .gain) (a .n) (a .p) (a .at) (a .table .now) 0 (a .l .block) (a .r) zero-le none), (pass-is (a .l) (a .w) (a .edges) (a .count) (a .gain) (a .n) (a .p) (a .at) (a .table .now) _ m (visits-skip (a .l) (a .w) (a .edges) (a .count) (a .gain) (a .n) (a .p) (a .at) 0 (a .l .block) (a .table .now) zero-le none), marked-refl (st .pre .2)))
+    let marks : (j : ℕ) → j < a .l .block → cellAt (a .table .now) (a .flag * a .l .block + j) ≡ mark = λ j y. rw (st .pre .3 .is) at (sized-mark (omega arith) (st .pre .0 .bounded .at j y) (none j zero-le y)) in
+    (told-pass (a .l) (a .w) (a .edges) (a .count) (a .tells .now) (a .gain) (a .n) (a .p) (a .at) (a .table .now) (a .r) _ m (told-skip (a .l) (a .w) (a .edges) (a .count) (a .tells .now) (a .gain) (a .n) (a .p) (a .at) (a .table .now) 0 (a .l .block) (a .r) zero-le none), (pass-is (a .l) (a .w) (a .edges) (a .count) (a .gain) (a .n) (a .p) (a .at) (a .table .now) _ m (visits-skip (a .l) (a .w) (a .edges) (a .count) (a .gain) (a .n) (a .p) (a .at) 0 (a .l .block) (a .table .now) zero-le none), flagged-empty (a .l) (st .pre .0 .laid) (a .table .now) (a .flags .now) (a .flag) (st .pre .3 .block) (st .pre .0 .inside) (st .pre .2) marks))
 
 returns-3 : tie.Need-returns-3
 unfolding each
@@ -96,7 +112,10 @@ pass-spec =
     same-length
     same-length-2
     returns
+    mul-flags
+    slice-set-of-flags
     same-length-3
+    same-length-4
     returns-2
     returns-3
     returns-4)
