@@ -513,55 +513,53 @@ static void large(void)
     free(p);
 }
 
-/* Writing the reports of the longest piece, and nothing else: two stores a tick. */
-static double write_reports(int64_t *scores, uint32_t *lengths, int64_t score, uint32_t length)
+/* Writing the reports of the longest piece from place `at` on, and nothing else: the scores in one loop, the lengths in
+ * another, at -O3, so that the library's own writing is not measured against a slower one. */
+__attribute__((noinline, optimize("O3"))) static void write_reports(struct lent *l, size_t at, int64_t score, uint32_t length)
 {
-    double start = now();
+    int64_t *scores = l->scores;
+    uint32_t *lengths = l->lengths;
 
-    for (size_t i = 0; i < PIECE_TICKS_MAX; i++) {
+    for (size_t i = at; i < PIECE_TICKS_MAX; i++)
         scores[i] = score;
+    for (size_t i = at; i < PIECE_TICKS_MAX; i++)
         lengths[i] = length;
-    }
     __asm__ volatile("" : : "r"(scores), "r"(lengths) : "memory"); /* they are looked at */
-    return now() - start;
 }
 
-/* What the library takes for a piece of `high` + 2 ticks, for the longest one, and what writing the reports of the longest
- * takes, in turn, as many rounds as fit 0.3 seconds and seven at least. A line: case, window, the three least times. */
+/* What the library takes for a piece of `high` + 2 ticks, for the longest one, and what it takes to write the reports that
+ * repeat in the longest, those after `high` + 1 ticks, to the same places: stores that begin at an odd place take longer. In
+ * turn, as many rounds as fit 0.3 seconds and seven at least. A line: case, window, the three least times. Nothing is compared
+ * here: time_call times the same two calls and compares them. */
 static void time_steady(const char *name, unsigned high, const struct pattern *p, const struct lent *from,
                         const int32_t *values)
 {
     const uint32_t durations[] = {high + 2, PIECE_TICKS_MAX};
     struct lent l = new_lent(p, PIECE_TICKS_MAX);
-    int64_t *scores = memory(PIECE_TICKS_MAX * sizeof *scores);
-    uint32_t *lengths = memory(PIECE_TICKS_MAX * sizeof *lengths);
     double least[3] = {1e9, 1e9, 1e9}, spent = 0;
 
     for (int round = 0; round < 7 || (round < ROUNDS && spent < 0.3); round++)
         for (int i = 0; i < 3; i++) {
-            double took;
+            uint32_t answer = CALL_DONE;
+            double start, took;
 
-            if (i < 2) {
-                double start;
-
-                memcpy(l.state, from->state, sizeof from->state);
-                memcpy(l.first, from->first, p->cells * sizeof *from->first);
-                memcpy(l.second, from->second, p->cells * sizeof *from->second);
-                start = now();
-                if (feed_by(LIBRARY, p, &l, durations[i], values, 0) != CALL_DONE)
-                    fail("a piece is refused");
-                took = now() - start;
-            } else {
-                took = write_reports(scores, lengths, l.scores[round], l.lengths[round]);
-            }
+            memcpy(l.state, from->state, sizeof from->state);
+            memcpy(l.first, from->first, p->cells * sizeof *from->first);
+            memcpy(l.second, from->second, p->cells * sizeof *from->second);
+            start = now();
+            if (i < 2)
+                answer = feed_by(LIBRARY, p, &l, durations[i], values, 0);
+            else
+                write_reports(&l, high + 1, l.scores[high], l.lengths[high]);
+            took = now() - start;
+            if (answer != CALL_DONE)
+                fail("a piece is refused");
             spent += took;
             if (took < least[i])
                 least[i] = took;
         }
     printf("steady\t%s\t%u\t%.9f\t%.9f\t%.9f\n", name, high, least[0], least[1], least[2]);
     free_lent(&l);
-    free(scores);
-    free(lengths);
 }
 
 /* A piece as long as it may be, one of `high` + 2 ticks beside it, and for one case every power of ten. Each is fed after
@@ -694,7 +692,7 @@ static void time_best(const char *name, size_t high, const char *text, const str
 }
 
 /* As many ticks as a record may have, in few pieces: the library alone. The plain monitor is fed with pieces of the
- * same values and few ticks: after `high` + 2 ticks of a piece nothing changes any more, so the best score and the tables
+ * same values and few ticks: after `high` + 1 ticks of a piece nothing changes any more, so the best score and the tables
  * must be the same, and the best end must lie as far behind its piece's beginning. */
 static void time_longest(const char *name, size_t high, const char *text, const struct record *r)
 {
@@ -1093,28 +1091,52 @@ static size_t peak(void)
     return value;
 }
 
-/* What a monitor needs beyond the record: the peak after it has run, less the one before its tables were made. */
+/* The patterns of the memory part. Their windows are larger than those of the records, so that a table takes 320 KiB or
+ * more: a copy of one would be seen. */
+static const char *memory_text(const char *name, int small)
+{
+    if (strcmp(name, "OVERSHOOT") == 0)
+        return overshoot("margin", small ? 1 : 300, 15);
+    if (strcmp(name, "RINGING") == 0)
+        return ringing("margin", small ? 1 : 80, 8, 4);
+    if (strcmp(name, "unbounded") == 0)
+        return unbounded("margin", small ? 1 : 4095);
+    return gearbox("margin", small ? 0 : 150);
+}
+
+/* An opening and the record's first entries; only the last entry's reports are kept. */
+static void feed_all(int monitor, const struct pattern *p, struct lent *l, const struct record *r, size_t entries)
+{
+    uint32_t answer = open_by(monitor, p, l);
+
+    for (size_t i = 0; i < entries && answer == CALL_DONE; i++)
+        answer = feed_by(monitor, p, l, r->durations[i], r->values + i * r->channels, 0);
+    if (answer != CALL_DONE)
+        fail("a record is refused");
+}
+
+/* What a monitor needs beyond the record: the peak after it has run, less the one before its tables were made. A small
+ * window has run before, so that the pages of code, which the kernel brings in by up to 64 KiB, are there already. */
 static void memory_of(const char *name, const char *monitor, size_t entries)
 {
     int m = strcmp(monitor, "library") == 0 ? LIBRARY : strcmp(monitor, "gcc") == 0 ? GCC : CLANG;
     struct record r = strcmp(name, "RINGING") == 0   ? swing_record(entries, 10)
                       : strcmp(name, "gearbox") == 0 ? gearbox_record(entries)
                                                      : cruise_record(entries, 10);
-    struct pattern *p = new_pattern(strcmp(name, "RINGING") == 0     ? ringing("margin", 8, 8, 4)
-                                    : strcmp(name, "gearbox") == 0   ? gearbox("margin", 0)
-                                    : strcmp(name, "OVERSHOOT") == 0 ? overshoot("margin", 30, 15)
-                                                                     : unbounded("margin", 4095));
-    size_t before = peak();
-    struct lent l = new_lent(p, 4); /* an entry's reports */
-    uint32_t answer = open_by(m, p, &l);
+    struct pattern *small = new_pattern(memory_text(name, 1)), *p = new_pattern(memory_text(name, 0));
+    struct lent few = new_lent(small, 4), l; /* an entry's reports */
+    size_t before;
 
-    for (size_t i = 0; i < r.entries && answer == CALL_DONE; i++)
-        answer = feed_by(m, p, &l, r.durations[i], r.values + i * r.channels, 0);
-    if (answer != CALL_DONE)
-        fail("a record is refused");
+    feed_all(m, small, &few, &r, entries < 100 ? entries : 100);
+    peak(); /* so that its own pages are there, too */
+    before = peak();
+    l = new_lent(p, 4);
+    feed_all(m, p, &l, &r, entries);
     printf("memory\t%s\t%s\t%zu\t%zu\t%zu\t%zu\n", name, monitor, entries, 2 * p->cells * sizeof *l.first / 1024, before,
            peak());
+    free_lent(&few);
     free_lent(&l);
+    free(small);
     free(p);
     free_record(&r);
 }

@@ -1,5 +1,8 @@
 /* plain.c: the plain monitor (plain.h). bench/run compiles it with gcc -O3 and with clang -O3, each under names of its
- * own: PLAIN_OPEN and PLAIN_FEED. */
+ * own: PLAIN_OPEN and PLAIN_FEED.
+ *
+ * Tables that are written are `restrict` (not in move and offer, which are parts of move_block): the pattern's sizes and the
+ * cells have types that may alias by the rules of C, so a compiler would otherwise load the sizes again after each cell. */
 #include "plain.h"
 
 #include <string.h>
@@ -51,14 +54,14 @@ static int64_t gain(int sum, const struct plain_place *q, const int32_t *values)
     return worth;
 }
 
-static void clear(const struct plain_pattern *p, int64_t *table)
+static void clear(const struct plain_pattern *p, int64_t *restrict table)
 {
     for (size_t i = 0; i < p->cells; i++)
         table[i] = CELL_MARK;
 }
 
 /* At each time a start place with length 0, just entered, clocks 0, holds the empty run's worth. */
-static void begin_runs(const struct plain_pattern *p, int64_t *table)
+static void begin_runs(const struct plain_pattern *p, int64_t *restrict table)
 {
     for (int q = 0; q < p->places; q++)
         if (p->place[q].start)
@@ -100,7 +103,8 @@ static inline void move(const struct plain_pattern *p, int place, const size_t c
 }
 
 /* One block of cells: all clocks of a length, a stage and a place. `amount` is what the tick brings to its worths. */
-static void move_block(const struct plain_pattern *p, int place, int64_t amount, const int64_t *block, int64_t *next)
+static void move_block(const struct plain_pattern *p, int place, int64_t amount, const int64_t *block,
+                       int64_t *restrict next)
 {
     size_t values[CLOCKS] = {p->values[0], p->values[1], p->values[2], p->values[3]};
 
@@ -127,7 +131,7 @@ static void move_block(const struct plain_pattern *p, int place, int64_t amount,
 
 /* One tick: `to` becomes the table that follows `from`. In `sum` a place adds its distances when it was just entered, and
  * when the values are new; in `margin` every tick has its say. */
-static void tick(const struct plain_pattern *p, const int64_t *from, int64_t *to, const int64_t *gains, int fresh)
+static void tick(const struct plain_pattern *p, const int64_t *from, int64_t *restrict to, const int64_t *gains, int fresh)
 {
     clear(p, to);
     for (size_t length = 0; length < p->high; length++)
@@ -142,7 +146,7 @@ static void tick(const struct plain_pattern *p, const int64_t *from, int64_t *to
 }
 
 /* The best of the runs that have just entered an end place, in the window; the shortest of equals. */
-static void report(const struct plain_pattern *p, const int64_t *table, int64_t *score, uint32_t *length)
+static void report(const struct plain_pattern *p, const int64_t *table, int64_t *restrict score, uint32_t *restrict length)
 {
     *score = 0;
     *length = 0;
