@@ -1,0 +1,2 @@
+-- The flags of a table's blocks.
+pub mod Flags
