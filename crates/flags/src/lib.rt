@@ -1,7 +1,8 @@
 // Which blocks of a monitor's table hold a worth: a number for each length, and in it a bit for each block of that row (a
 // stage and a place). A block whose bit is not set need not be looked at.
 ghost use mathlib.Core.Path.{_≡_};
-ghost use Prim.Native.Nat.{_≤_, _<_};
+ghost use Prim.Native.Nat.{_^_, _≤_, _<_};
+ghost use lib.Bits.{bitOr};
 ghost use mathlib.Core.Bool.{cond};
 ghost use lib.Dec.{eqb};
 ghost use lib.ListN.{length, getD};
@@ -15,13 +16,21 @@ pub fn is_raised(flags: &[u32], n: usize, i: usize) -> bool
     (flags[n] >> i) % 2 == 1
 }
 
-// The flag of block i of row n.
+// A number with bit i set, if `on` says so.
+pub fn with_bit(x: u32, i: usize, on: bool) -> u32
+    requires { ⌜ i < 32 ⌝ }
+    ensures { λ r. ⌜ r ≡ cond on (bitOr x (2 ^ i)) x ⌝ }
+{
+    if on { x | (1 << i) } else { x }
+}
+
+// The flag of block i of row n is raised.
 pub fn raise(flags: &mut [u32], n: usize, i: usize)
     requires { ⌜ (n < length (now flags)) × (i < 32) ⌝ }
     ensures { λ _. ⌜ now (flags .exit) ≡ raised (now (flags .entry)) n i ⌝ }
 {
     let f = flags[n];
-    flags[n] = f | (1 << i);
+    flags[n] = with_bit(f, i, true);
 }
 
 fn raise_if(flags: &mut [u32], on: bool, i: usize)
