@@ -1,5 +1,6 @@
 // Best of a record: the record is fed to a monitor in chunks, and the best of the reports is kept.
-use feed::feed;
+use feed::feed_piece;
+use feed::flag_opened;
 use feed::open;
 use feed_checks::open_refusal;
 use monitor::Answer;
@@ -92,7 +93,7 @@ fn feed_some(
     values: &[i32],
     s: Search,
     first: &mut [i64],
-    second: &mut [i64],
+    flags: &mut [u32],
 ) -> Search
     requires { ⌜ (ticks ≤ 64) × (s .state .ticks + ticks ≤ 2147483647) ⌝ }
     ensures { λ r. ⌜ r .state
@@ -109,18 +110,17 @@ fn feed_some(
     let mut lengths: [u32; 64] = [0; 64];
     let state = s.state;
     let f = s.choice;
-    let after = feed(
+    let later = feed_piece(
         state,
         p,
         first,
-        second,
+        flags,
         ticks,
         values,
         &mut scores,
         &mut lengths,
     );
     let choice = choose_all(p, f, state.ticks, ticks, &scores, &lengths);
-    let later = after.state;
     Search {
         state: later,
         choice: choice,
@@ -136,7 +136,7 @@ fn feed_part(
     count: u32,
     s: Search,
     first: &mut [i64],
-    second: &mut [i64],
+    flags: &mut [u32],
 ) -> Search
     requires { ⌜ (Fit p (now durations) (now values) piece s (now first) (now second))
         × (piece < length (now durations)) × (count ≤ getD (now durations) piece 0) ⌝ }
@@ -154,7 +154,7 @@ fn feed_part(
     let mut search = s;
     while 0 < left {
         let ticks = least(left, 64);
-        search = feed_some(p, ticks, &values[at..past], search, first, second);
+        search = feed_some(p, ticks, &values[at..past], search, first, flags);
         left -= ticks;
     }
     search
@@ -186,7 +186,7 @@ fn feed_whole(
     piece: usize,
     s: Search,
     first: &mut [i64],
-    second: &mut [i64],
+    flags: &mut [u32],
 ) -> Search
     requires { ⌜ (Fit p (now durations) (now values) piece s (now first) (now second))
         × (piece < length (now durations)) ⌝ }
@@ -200,7 +200,7 @@ fn feed_whole(
     let duration = durations[piece];
     let still = p.high as u32 + 1;
     let moved = least(duration, still);
-    let search = feed_part(p, durations, values, piece, moved, s, first, second);
+    let search = feed_part(p, durations, values, piece, moved, s, first, flags);
     pass_rest(search, duration - moved)
 }
 
@@ -211,7 +211,7 @@ fn feed_all(
     values: &[i32],
     s: Search,
     first: &mut [i64],
-    second: &mut [i64],
+    flags: &mut [u32],
 ) -> Search
     requires { ⌜ Fit p (now durations) (now values) 0 s (now first) (now second) ⌝ }
     ensures { λ r. ⌜ SearchedTo p (bookOf (p .channels) (now (durations .entry)) (now (values .entry)))
@@ -224,7 +224,7 @@ fn feed_all(
     let mut search = s;
     let mut i: usize = 0;
     while i < durations.len() {
-        search = feed_whole(p, durations, values, i, search, first, second);
+        search = feed_whole(p, durations, values, i, search, first, flags);
         i += 1;
     }
     search
@@ -249,7 +249,9 @@ fn search_all(
         ticks: 0,
         last: [0, 0, 0, 0, 0, 0, 0, 0],
     };
+    let mut flags: [u32; 4096] = [0; 4096];
     let opened = open(zeros, p, first, second);
+    flag_opened(p, &mut flags);
     let state = opened.state;
     let none = Choice {
         end: 0,
@@ -260,7 +262,7 @@ fn search_all(
         state: state,
         choice: none,
     };
-    let end = feed_all(p, durations, values, s, first, second);
+    let end = feed_all(p, durations, values, s, first, &mut flags);
     end.choice
 }
 

@@ -21,7 +21,6 @@ use Rattle.walks.specs.Tables.{Table}
 use Rattle.cells.specs.declared.Layout.{Layout}
 use Rattle.cells.specs.Layout.{cellsIn}
 use Rattle.table.specs.Moves.{cellAt, marked, cleared}
-use Rattle.table.specs.Asks.{Marked}
 use Rattle.monitor.specs.Cells.{from, upTo, stateAt, written}
 use Rattle.monitor.specs.Open.{marks}
 use Rattle.monitor.proofs.Numbers.{from-length, made-front}
@@ -76,11 +75,3 @@ pub cleared-is : (p : Pattern) (t : List ℤ) → cellsNeeded p ≤ length t →
 cleared-is p t h =
     let z : cellsNeeded p - 0 ≡ cellsNeeded p = omega arith in
     ap (marked t 0) z ∙ marked-is t (cellsNeeded p) h ∙ ap (λ (l : List ℤ). l ++ drop (cellsNeeded p) t) (const-made 0 (cellsNeeded p))
-
--- the second table's marks, whatever its cells held during the call
-pub marks-past : (p : Pattern) (l : Layout) → cellsIn l ≡ cellsNeeded p → {t f g : List ℤ} → Marked l t f g → marks p g ≡ marks p f
-marks-past p l e {t} {f} {g} m =
-    ap (_++_ (replicate (cellsNeeded p) mark))
-    (ext-getD (pos 0) (drop (cellsNeeded p) g) (drop (cellsNeeded p) f)
-    (length-drop (cellsNeeded p) g ∙ ap (λ (n : ℕ). n - cellsNeeded p) (m .long) ∙ sym (length-drop (cellsNeeded p) f))
-    (λ i h. getD-drop (cellsNeeded p) g i (pos 0) ∙ m .past (cellsNeeded p + i) (omega arith) ∙ sym (getD-drop (cellsNeeded p) f i (pos 0))))

@@ -6,6 +6,7 @@ use feed_ticks::kind_flags;
 use feed_ticks::repeat_last;
 use feed_ticks::tell_all;
 use feed_ticks::view_in;
+use flags::raise_starts;
 use monitor::After;
 use monitor::Answer;
 use monitor::State;
@@ -13,17 +14,19 @@ use pattern::Pattern;
 use record::rules::least;
 use record::samples::same_sample;
 use table_tick::clear;
-use table_tick::raise;
 ghost use mathlib.Core.Path.{_≡_};
 ghost use mathlib.Core.Bool.{true, false, not};
 ghost use mathlib.Core.Option.{none};
 ghost use Prim.Native.Nat.{_≤_};
-ghost use mathlib.Core.List.{_++_};
+ghost use mathlib.Core.List.{List, _++_};
 ghost use lib.ListN.{length, take, drop};
+ghost use lib.IntN.{ℤ};
 ghost use Rattle.pattern.specs.Sound.{soundOf};
 ghost use Rattle.pattern.specs.Cells.{cellsNeeded};
 ghost use Rattle.pattern.specs.Slots.{all};
 ghost use Rattle.record.specs.Record.{valueInRange};
+ghost use Rattle.cells.specs.Layout.{layoutOf};
+ghost use Rattle.flags.specs.Flags.{Flagged};
 ghost use Rattle.monitor.specs.Cells.{written};
 ghost use Rattle.monitor.specs.Tick.{openTable};
 ghost use Rattle.monitor.specs.State.{noTicks, pieceLater};
@@ -100,6 +103,16 @@ pub fn open(s: State, p: Pattern, first: &mut [i64], second: &mut [i64]) -> Afte
     }
 }
 
+// The flags of the table that an opening leaves.
+pub fn flag_opened(p: Pattern, flags: &mut [u32])
+    requires { ⌜ (soundOf p ≡ true) × (4096 ≤ length (now flags)) ⌝ }
+    ensures { λ _. ⌜ ((t : List ℤ) → cellsNeeded p ≤ length t
+        → Flagged (layoutOf p (p .high)) (written p (openTable p) t) (now (flags .exit))) ⌝ }
+{
+    let starts = kind_flags(false, p);
+    raise_starts(flags, starts, p.placecount as usize);
+}
+
 // The piece's values, then what stood behind them.
 fn last_after(last: [i32; 8], values: &[i32]) -> [i32; 8]
     requires { ⌜ length (now values) ≤ 8 ⌝ }
@@ -116,27 +129,27 @@ fn last_after(last: [i32; 8], values: &[i32]) -> [i32; 8]
 }
 
 // The ticks of a piece, each with its report. Its later ticks are all alike, so that after high + 1 of them the table stands
-// still: the rest of the reports is the last one again. Meanwhile the second table holds the flags of the first one's blocks.
+// still: the rest of the reports is the last one again.
 fn tell_piece(
     p: Pattern,
     new: bool,
     duration: u32,
     values: &[i32],
     first: &mut [i64],
-    second: &mut [i64],
+    flags: &mut [u32],
     scores: &mut [i64],
     lengths: &mut [u32],
 )
     requires { ⌜ (soundOf p ≡ true) × (all valueInRange (now values) ≡ true)
         × (cellsNeeded p ≤ length (now first)) × (all cellFine (take (cellsNeeded p) (now first)) ≡ true)
-        × (duration ≤ length (now scores)) × (duration ≤ length (now lengths)) × (cellsNeeded p ≤ length (now second)) ⌝ }
+        × (duration ≤ length (now scores)) × (duration ≤ length (now lengths)) × (Flagged (layoutOf p (p .high)) (now first) (now flags)) ⌝ }
     ensures { λ _. ⌜ now (first .exit)
         ≡ written p (tableIn p new (now (values .entry)) (now (first .entry)) duration) (now (first .entry)) ⌝ }
     ensures { λ _. ⌜ now (scores .exit)
         ≡ scoresIn p new (now (values .entry)) (now (first .entry)) duration (now (scores .entry)) ⌝ }
     ensures { λ _. ⌜ now (lengths .exit)
         ≡ lengthsIn p new (now (values .entry)) (now (first .entry)) duration (now (lengths .entry)) ⌝ }
-    ensures { λ _. ⌜ marks p (now (second .exit)) ≡ marks p (now (second .entry)) ⌝ }
+    ensures { λ _. ⌜ Flagged (layoutOf p (p .high)) (now (first .exit)) (now (flags .exit)) ⌝ }
 {
     let l = layout_of(p, p.high);
     let w = p.weighing;
@@ -149,10 +162,9 @@ fn tell_piece(
     let low = p.low as usize;
     let still = p.high as u32 + 1;
     let moved = least(duration, still) as usize;
-    raise(second, l);
     tell_all(
         first,
-        second,
+        flags,
         scores,
         lengths,
         moved,
@@ -169,31 +181,31 @@ fn tell_piece(
     repeat_last(scores, lengths, moved, duration as usize);
 }
 
-// What feeding does when it is not refused.
-fn feed_piece(
+// What feeding does to the first table and the report slices when it is not refused.
+pub fn feed_piece(
     s: State,
     p: Pattern,
     first: &mut [i64],
-    second: &mut [i64],
+    flags: &mut [u32],
     duration: u32,
     values: &[i32],
     scores: &mut [i64],
     lengths: &mut [u32],
 ) -> State
-    requires { ⌜ feedCause p s (now first) (length (now second)) duration (now values)
-        (length (now scores)) (length (now lengths)) ≡ none ⌝ }
+    requires { ⌜ (feedCause p s (now first) (length (now first)) duration (now values)
+        (length (now scores)) (length (now lengths)) ≡ none)
+        × (Flagged (layoutOf p (p .high)) (now first) (now flags)) ⌝ }
     ensures { λ r. ⌜ r ≡ pieceLater p s duration (now (values .entry)) ⌝ }
     ensures { λ _. ⌜ now (first .exit)
         ≡ written p (tableAfter p s (now (first .entry)) (now (values .entry)) duration) (now (first .entry)) ⌝ }
-    ensures { λ _. ⌜ now (second .exit) ≡ marks p (now (second .entry)) ⌝ }
     ensures { λ _. ⌜ now (scores .exit) ≡ scoresIn p (isNew p s (now (values .entry))) (now (values .entry))
         (now (first .entry)) duration (now (scores .entry)) ⌝ }
     ensures { λ _. ⌜ now (lengths .exit) ≡ lengthsIn p (isNew p s (now (values .entry))) (now (values .entry))
         (now (first .entry)) duration (now (lengths .entry)) ⌝ }
+    ensures { λ _. ⌜ Flagged (layoutOf p (p .high)) (now (first .exit)) (now (flags .exit)) ⌝ }
 {
     let new = is_new(p, s, values);
-    tell_piece(p, new, duration, values, first, second, scores, lengths);
-    mark_all(p, second);
+    tell_piece(p, new, duration, values, first, flags, scores, lengths);
     let before = s.last;
     let last = last_after(before, values);
     State {
@@ -224,6 +236,7 @@ pub fn feed(
     ensures { λ _. ⌜ now (lengths .exit) ≡ feedLengths p s (now (first .entry)) (now (second .entry))
         (callOf duration (now (values .entry)) (now (scores .entry)) (now (lengths .entry))) ⌝ }
 {
+    let mut flags: [u32; 4096] = [0; 4096];
     match feed_refusal(
         p,
         s,
@@ -233,9 +246,11 @@ pub fn feed(
         values,
         scores.len(),
         lengths.len(),
+        &mut flags,
     ) {
         Answer::Done => {
-            let state = feed_piece(s, p, first, second, duration, values, scores, lengths);
+            let state = feed_piece(s, p, first, &mut flags, duration, values, scores, lengths);
+            mark_all(p, second);
             After {
                 state: state,
                 answer: Answer::Done,

@@ -5,7 +5,7 @@ use mathlib.Core.Path.{_≡_, refl}
 use mathlib.Core.List.{List, [], _∷_}
 use mathlib.Core.Option.{Option, none, some}
 use mathlib.Core.Bool.{Bool, true, false, not, _&&_}
-use borrow.Author.Tests.{leb-true, ltb-false, eqb-true, not-false}
+use borrow.Author.Tests.{leb-true, ltb-false, eqb-true, not-false, le-ltb}
 use lib.Dec.{eqb, leb, ltb}
 use lib.ListN.{length, take}
 use lib.IntN.{ℤ}
@@ -121,3 +121,13 @@ fed p s t second d vs scores lengths e =
       scores = ltb-false scores d (slices .0);
       lengths = ltb-false lengths d (slices .1);
     }
+
+-- of the second table only that it is long enough counts
+pub any-second : (p : Pattern) (s : State) (t : List ℤ) (second other d : ℕ) (vs : Sample) (scores lengths : ℕ)
+    → feedCause p s t second d vs scores lengths ≡ none → cellsNeeded p ≤ other → feedCause p s t other d vs scores lengths ≡ none
+unfolding feedCause
+any-second p s t second other d vs scores lengths e h =
+    let k = fed p s t second d vs scores lengths e .tables in
+    let a : tableTooShort p (length t) second ≡ false = rw (le-ltb (length t) (cellsNeeded p) (k .first), le-ltb second (cellsNeeded p) (k .second)) in
+    let b : tableTooShort p (length t) other ≡ false = rw (le-ltb (length t) (cellsNeeded p) (k .first), le-ltb other (cellsNeeded p) h) in
+    rw b (rw a at e)

@@ -1,4 +1,8 @@
-// What opening and feeding are refused for (document 01, 'Open', 'Feed a piece'): each cause, and the first of them.
+// What opening and feeding are refused for (document 01, 'Open', 'Feed a piece'): each cause, and the first of them. The
+// look at a table's cells also finds which of its blocks hold a worth.
+use cells::Layout;
+use cells::layout_of;
+use flags::with_bit;
 use monitor::Answer;
 use monitor::State;
 use pattern::Counted;
@@ -10,15 +14,19 @@ use record::rules::in_range;
 use weighting::MARK;
 ghost use mathlib.Core.Path.{_≡_};
 ghost use mathlib.Core.Bool.{not, cond, _&&_, _||_};
-ghost use Prim.Native.Nat.{_≤_};
+ghost use mathlib.Core.Option.{none};
+ghost use Prim.Native.Nat.{_+_, _*_, _≤_, _<_};
 ghost use lib.Dec.{ltb};
 ghost use lib.ListN.{length, take, drop};
 ghost use Rattle.pattern.specs.Slots.{all};
 ghost use Rattle.pattern.specs.Sound.{isNull};
 ghost use Rattle.record.specs.Record.{valueInRange};
+ghost use Rattle.cells.specs.Layout.{layoutOf, cellsIn, Laid};
+ghost use Rattle.flags.specs.Flags.{RowFlagged, Flagged};
 ghost use Rattle.monitor.specs.State.{stateSound};
 ghost use Rattle.monitor.specs.Open.{answerOf, openRefusal};
 ghost use Rattle.monitor.specs.Feed.{cellFine, pieceBroken, feedCause};
+ghost use Rattle.feed_checks.specs.Mark.{isMark};
 
 // A last value of a channel in use is in range, and one of an unused channel is zero.
 fn value_fine(used: bool, value: i32) -> bool
@@ -65,18 +73,78 @@ fn cell_fine(cell: i64) -> bool
     (cell == MARK) | ((-32760000000 <= cell) & (cell <= 32760000000))
 }
 
-// Of a table only the needed cells count.
-pub fn cells_broken(table: &[i64], needed: usize) -> bool
-    requires { ⌜ needed ≤ length (now table) ⌝ }
-    ensures { λ r. ⌜ r ≡ not (all cellFine (take needed (now (table .entry)))) ⌝ }
+// What a look at the cells of a block finds: whether all are fine, and whether one holds a worth.
+pub struct Look {
+    pub fine: bool,
+    pub held: bool,
+}
+
+// The cells of one block.
+fn look_block(table: &[i64], at: usize, size: usize) -> Look
+    requires { ⌜ at + size ≤ length (now table) ⌝ }
+    ensures { λ r. ⌜ r .fine ≡ all cellFine (take size (drop at (now (table .entry)))) ⌝ }
+    ensures { λ r. ⌜ r .held ≡ not (all isMark (take size (drop at (now (table .entry))))) ⌝ }
 {
-    let mut ok = true;
+    let mut fine = true;
+    let mut held = false;
     let mut i: usize = 0;
-    while i < needed {
-        ok = ok & cell_fine(table[i]);
+    while i < size {
+        let v = table[at + i];
+        fine = fine & cell_fine(v);
+        held = held | (v != MARK);
         i += 1;
     }
-    !ok
+    Look {
+        fine: fine,
+        held: held,
+    }
+}
+
+// A row: whether all its cells are fine, and a flag for each block that holds a worth.
+pub struct RowLook {
+    pub fine: bool,
+    pub flags: u32,
+}
+
+fn look_row(table: &[i64], l: Layout, n: usize) -> RowLook
+    requires { ⌜ (Laid l) × (cellsIn l ≤ length (now table)) × (n ≤ l .high) ⌝ }
+    ensures { λ r. ⌜ r .fine ≡ all cellFine (take (l .row) (drop (n * l .row) (now (table .entry)))) ⌝ }
+    ensures { λ r. ⌜ RowFlagged l (now (table .entry)) (r .flags) n ⌝ }
+{
+    let size = l.block;
+    let count = 2 * l.places;
+    let from = n * l.row;
+    let mut fine = true;
+    let mut flags: u32 = 0;
+    let mut i: usize = 0;
+    while i < count {
+        let b = look_block(table, from + i * size, size);
+        fine = fine & b.fine;
+        flags = with_bit(flags, i, b.held);
+        i += 1;
+    }
+    RowLook {
+        fine: fine,
+        flags: flags,
+    }
+}
+
+// Of a table only the needed cells count. Each is looked at once, row by row, and the flags of its blocks are found with
+// it.
+pub fn cells_broken(table: &[i64], l: Layout, flags: &mut [u32]) -> bool
+    requires { ⌜ (Laid l) × (cellsIn l ≤ length (now table)) × (l .high < length (now flags)) ⌝ }
+    ensures { λ r. ⌜ r ≡ not (all cellFine (take (cellsIn l) (now (table .entry)))) ⌝ }
+    ensures { λ _. ⌜ Flagged l (now (table .entry)) (now (flags .exit)) ⌝ }
+{
+    let mut fine = true;
+    let mut n: usize = 0;
+    while n <= l.high {
+        let r = look_row(table, l, n);
+        fine = fine & r.fine;
+        flags[n] = r.flags;
+        n += 1;
+    }
+    !fine
 }
 
 // Either of two lengths is below what is needed.
@@ -103,7 +171,7 @@ pub fn open_refusal(p: Pattern, first: usize, second: usize) -> Answer
 }
 
 // Feeding: 7, 12, 11, 8, 13, 14, 6, each looked for only where the ones before it give no cause. Of the second table
-// and of the report slices only the lengths count.
+// and of the report slices only the lengths count. Where there is no cause, the flags are right for the first table.
 pub fn feed_refusal(
     p: Pattern,
     s: State,
@@ -113,9 +181,13 @@ pub fn feed_refusal(
     values: &[i32],
     scores: usize,
     lengths: usize,
+    flags: &mut [u32],
 ) -> Answer
+    requires { ⌜ 4096 ≤ length (now flags) ⌝ }
     ensures { λ r. ⌜ r ≡ answerOf
         (feedCause p s (now (first .entry)) second duration (now (values .entry)) scores lengths) ⌝ }
+    ensures { λ _. ⌜ (feedCause p s (now (first .entry)) second duration (now (values .entry)) scores lengths ≡ none
+        → Flagged (layoutOf p (p .high)) (now (first .entry)) (now (flags .exit))) ⌝ }
 {
     match cells(p) {
         Counted::Cells(needed) => {
@@ -131,7 +203,8 @@ pub fn feed_refusal(
             if 2147483647 < s.ticks as u64 + duration as u64 {
                 return Answer::Refused(Refusal::TooManyTicks);
             }
-            if cells_broken(first, needed as usize) {
+            let l = layout_of(p, p.high);
+            if cells_broken(first, l, flags) {
                 return Answer::Refused(Refusal::BrokenCell);
             }
             if too_short(scores, lengths, duration as u64) {

@@ -19,7 +19,8 @@ ghost use lib.ListN.{length, getD, set};
 ghost use lib.IntN.{pos};
 ghost use Rattle.table.specs.Moves.{tickOf};
 ghost use Rattle.table.specs.Reports.{toldOf};
-ghost use Rattle.table.specs.Asks.{Ticking, Flagged, Marked};
+ghost use Rattle.flags.specs.Flags.{Flagged};
+ghost use Rattle.table.specs.Asks.{Ticking};
 ghost use Rattle.feed_ticks.specs.Ticks.{kindFlag, kindFlags, viewIn, viewAt, groundOf};
 ghost use Rattle.feed_ticks.specs.Ticks.{Telling, tableTo, scoresTo, lengthsTo, repeated};
 
@@ -94,7 +95,7 @@ fn view_at(first: View, later: View, i: usize) -> View
 // One tick over the table, and its report in place i.
 fn tell(
     first: &mut [i64],
-    flags: &mut [i64],
+    flags: &mut [u32],
     scores: &mut [i64],
     lengths: &mut [u32],
     i: usize,
@@ -114,7 +115,7 @@ fn tell(
         ≡ set (now (scores .entry)) i (toldOf l w v edges count ends low (now (first .entry)) .score) ⌝ }
     ensures { λ _. ⌜ now (lengths .exit)
         ≡ set (now (lengths .entry)) i (toldOf l w v edges count ends low (now (first .entry)) .length) ⌝ }
-    ensures { λ _. ⌜ Marked l (now (first .exit)) (now (flags .entry)) (now (flags .exit)) ⌝ }
+    ensures { λ _. ⌜ Flagged l (now (first .exit)) (now (flags .exit)) ⌝ }
 {
     let r = tick(first, flags, l, w, v, edges, count, starts, ends, low);
     let score = r.score;
@@ -126,7 +127,7 @@ fn tell(
 // All ticks of a piece, each with its report.
 pub fn tell_all(
     first: &mut [i64],
-    flags: &mut [i64],
+    flags: &mut [u32],
     scores: &mut [i64],
     lengths: &mut [u32],
     duration: usize,
@@ -147,7 +148,7 @@ pub fn tell_all(
         ≡ scoresTo (groundOf l w edges count starts ends low) v u (now (first .entry)) (now (scores .entry)) duration ⌝ }
     ensures { λ _. ⌜ now (lengths .exit)
         ≡ lengthsTo (groundOf l w edges count starts ends low) v u (now (first .entry)) (now (lengths .entry)) duration ⌝ }
-    ensures { λ _. ⌜ Marked l (now (first .exit)) (now (flags .entry)) (now (flags .exit)) ⌝ }
+    ensures { λ _. ⌜ Flagged l (now (first .exit)) (now (flags .exit)) ⌝ }
 {
     let mut i: usize = 0;
     while i < duration {

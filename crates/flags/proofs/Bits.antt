@@ -2,6 +2,9 @@
 use Prim.Native.Nat.{ℕ, zero, _+_, _*_, _/_, _%_, _^_, _≤_, _<_, max}
 use native.Mathlib.Omega.{arith}
 use mathlib.Core.Path.{_≡_, refl, sym, ap, _∙_}
+use mathlib.Core.Bool.{false}
+use borrow.Author.Tests.{eqb-false}
+use lib.Dec.{eqb}
 use lib.Bits.{bitOr, or-shr, or-step}
 use lib.Pow.{shl-shr, shr-le, shl-exact}
 use Rattle.flags.specs.Flags.{bitAt}
@@ -29,3 +32,7 @@ or-sets x i h =
 -- no bit of 0 is
 pub no-bit : (i : ℕ) → bitAt 0 i ≡ 0
 no-bit i = let h = shr-le 0 i in omega arith
+
+-- a bit that is not set is 0
+pub bit-unset : (x i : ℕ) → eqb (bitAt x i) 1 ≡ false → bitAt x i ≡ 0
+bit-unset x i h = let z = eqb-false (bitAt x i) 1 h in omega (arith, z)

@@ -16,7 +16,7 @@ use Rattle.weighting.specs.Cell.{mark}
 use Rattle.cells.specs.declared.Layout.{Layout}
 use Rattle.cells.specs.Layout.{Laid}
 use Rattle.cells.proofs.Blocks.{row-next}
-use Rattle.flags.specs.Flags.{bitAt, startAt, raised, RowFlagged, Flagged, Higher}
+use Rattle.flags.specs.Flags.{bitAt, startAt, raised, RowFlagged, Flagged, IsRaised, Higher, Grown}
 use Rattle.flags.proofs.Bits.{or-keeps, or-sets, no-bit}
 
 -- ---- cells of different parts
@@ -75,6 +75,16 @@ higher-raised f n i low = record { long = raised-long f n i; keeps = λ m j h. b
         rw q (or-keeps (getD f n 0) (2 ^ i) j z)
     by m j h false e = rw (raised-other f n i m (eqb-false m n e)) at h
 
+-- the flag that is raised
+pub raised-is : (f : List ℕ) (n i : ℕ) → n < length f → IsRaised (raised f n i) n i
+raised-is f n i low z = or-sets (getD f n 0) i (rw (raised-same f n i low) at z)
+
+pub grown-refl : {l : Layout} {t : List ℤ} {f : List ℕ} → Flagged l t f → Grown l t f f
+grown-refl {f = f} k = record { flagged = k; higher = higher-refl f }
+
+pub grown-trans : {l : Layout} {t u : List ℤ} {f g h : List ℕ} → Grown l t f g → Grown l u g h → Grown l u f h
+grown-trans a b = record { flagged = b .flagged; higher = higher-trans (a .higher) (b .higher) }
+
 module _ (l : Layout) (laid : Laid l) where
   -- a block's cells lie in its row
   pub in-row : (i k : ℕ) → i < 2 * l .places → k < l .block → i * l .block + k < l .row
@@ -83,41 +93,40 @@ module _ (l : Layout) (laid : Laid l) where
       omega (arith, row-next i (l .block), laid .row-is)
 
   -- more flags than are needed are right, too
-  pub flagged-higher : (t : List ℤ) (f g : List ℕ) → Higher f g → Flagged l t f → Flagged l t g
+  flagged-higher : (t : List ℤ) (f g : List ℕ) → Higher f g → Flagged l t f → Flagged l t g
   flagged-higher t f g h k =
       record {
         long = rw (h .long) (k .long);
         rows = λ n low. record { marks = λ i c hi hc z. k .rows n low .marks i c hi hc (h .keeps n i z) };
       }
 
-  -- a cell of block i of row n is written, and the block's flag is raised
-  pub flagged-put : (t : List ℤ) (f : List ℕ) (n i c : ℕ) (v : ℤ) → n ≤ l .high → i < 2 * l .places → c < l .block → Flagged l t f → Flagged l (set t (startAt l n i + c) v) (raised f n i)
-  flagged-put t f n i c v low hi hc k =
-      record {
-        long = rw (raised-long f n i) (k .long);
-        rows = λ m lm. record { marks = λ j d hj hd z. by m j d lm hj hd z (eqb m n) refl };
-      }
-    where
-      inside : n < length f
-      inside = let z = k .long in omega arith
+  -- one flag more
+  pub raised-grown : (t : List ℤ) (f : List ℕ) (n i : ℕ) → n < length f → Flagged l t f → Grown l t f (raised f n i)
+  raised-grown t f n i inside k = let up = higher-raised f n i inside in record { flagged = flagged-higher t f (raised f n i) up k; higher = up }
 
-      same-row : (j d : ℕ) → j < 2 * l .places → d < l .block → bitAt (bitOr (getD f n 0) (2 ^ i)) j ≡ 0 → (x : Bool) → eqb j i ≡ x → getD (set t (startAt l n i + c) v) (startAt l n j + d) (pos 0) ≡ mark
-      same-row j d hj hd z true e =
-          let q : j ≡ i = eqb-true j i e in
-          absurd (or-sets (getD f n 0) i (rw q at z))
-      same-row j d hj hd z false e =
+  -- a cell of a block is written whose flag is raised
+  pub flagged-write : (t : List ℤ) (f : List ℕ) (n i c : ℕ) (v : ℤ) → i < 2 * l .places → c < l .block → IsRaised f n i → Flagged l t f → Flagged l (set t (startAt l n i + c) v) f
+  flagged-write t f n i c v hi hc up k =
+      record { long = k .long; rows = λ m lm. record { marks = λ j d hj hd z. other m j d hj hd z (eqb m n) refl ∙ k .rows m lm .marks j d hj hd z } }
+    where
+      same-row : (j d : ℕ) → d < l .block → bitAt (getD f n 0) j ≡ 0 → (x : Bool) → eqb j i ≡ x → getD (set t (startAt l n i + c) v) (startAt l n j + d) (pos 0) ≡ getD t (startAt l n j + d) (pos 0)
+      same-row j d hd z true e = let q : j ≡ i = eqb-true j i e in absurd (up (rw q at z))
+      same-row j d hd z false e =
           let ne = apart (l .block) j i d c hd hc (eqb-false j i e) in
           getD-set-other t (startAt l n i + c) (startAt l n j + d) v (pos 0) (λ s. ne (omega arith))
-          ∙ k .rows n low .marks j d hj hd (or-keeps (getD f n 0) (2 ^ i) j z)
 
-      by : (m j d : ℕ) → m ≤ l .high → j < 2 * l .places → d < l .block → bitAt (getD (raised f n i) m 0) j ≡ 0 → (x : Bool) → eqb m n ≡ x → getD (set t (startAt l n i + c) v) (startAt l m j + d) (pos 0) ≡ mark
-      by m j d lm hj hd z true e =
-          let q : m ≡ n = eqb-true m n e in
-          rw q (same-row j d hj hd (rw (q, raised-same f n i inside) at z) (eqb j i) refl)
-      by m j d lm hj hd z false e =
+      other : (m j d : ℕ) → j < 2 * l .places → d < l .block → bitAt (getD f m 0) j ≡ 0 → (x : Bool) → eqb m n ≡ x → getD (set t (startAt l n i + c) v) (startAt l m j + d) (pos 0) ≡ getD t (startAt l m j + d) (pos 0)
+      other m j d hj hd z true e = let q : m ≡ n = eqb-true m n e in rw q (same-row j d hd (rw q at z) (eqb j i) refl)
+      other m j d hj hd z false e =
           let ne = apart (l .row) m n (j * l .block + d) (i * l .block + c) (in-row j d hj hd) (in-row i c hi hc) (eqb-false m n e) in
           getD-set-other t (startAt l n i + c) (startAt l m j + d) v (pos 0) (λ s. ne (omega arith))
-          ∙ k .rows m lm .marks j d hj hd (rw (raised-other f n i m (eqb-false m n e)) at z)
+
+  -- a cell of block i of row n is written, and the block's flag is raised
+  pub flagged-put : (t : List ℤ) (f : List ℕ) (n i c : ℕ) (v : ℤ) → n ≤ l .high → i < 2 * l .places → c < l .block → Flagged l t f → Grown l (set t (startAt l n i + c) v) f (raised f n i)
+  flagged-put t f n i c v low hi hc k =
+      let inside : n < length f = let z = k .long in omega arith in
+      let g = raised-grown t f n i inside k in
+      record { flagged = flagged-write t (raised f n i) n i c v hi hc (raised-is f n i inside) (g .flagged); higher = g .higher }
 
   -- row n is all marks, the other rows are as they were, and the row has no flag
   pub flagged-wiped : (t u : List ℤ) (f : List ℕ) (n : ℕ) → n ≤ l .high → Flagged l t f → ((k : ℕ) → k < l .row → getD u (n * l .row + k) (pos 0) ≡ mark) → ((i : ℕ) → (i < n * l .row) ⊎ (n * l .row + l .row ≤ i) → getD u i (pos 0) ≡ getD t i (pos 0)) → Flagged l u (set f n 0)

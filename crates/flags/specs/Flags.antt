@@ -40,7 +40,16 @@ pub record Flagged (l : Layout) (t : List ℤ) (f : List ℕ) : Type 0 where
   pub long : l .high < length f
   pub rows : (n : ℕ) → n ≤ l .high → RowFlagged l t (getD f n 0) n
 
+-- The flag of block i of row n is raised.
+abbrev pub IsRaised : List ℕ → (n i : ℕ) → Type 0
+IsRaised f n i = bitAt (getD f n 0) i ≡ 0 → ⊥
+
 -- No flag of f is lowered in g.
 pub record Higher (f g : List ℕ) : Type 0 where
   pub long : length g ≡ length f
   pub keeps : (n i : ℕ) → bitAt (getD g n 0) i ≡ 0 → bitAt (getD f n 0) i ≡ 0
+
+-- The flags g are right for the table, and no flag of f is lowered in them.
+pub record Grown (l : Layout) (t : List ℤ) (f g : List ℕ) : Type 0 where
+  pub flagged : Flagged l t g
+  pub higher : Higher f g

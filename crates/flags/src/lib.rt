@@ -5,15 +5,15 @@ ghost use Prim.Native.Nat.{_^_, _≤_, _<_};
 ghost use lib.Bits.{bitOr};
 ghost use mathlib.Core.Bool.{cond};
 ghost use lib.Dec.{eqb};
-ghost use lib.ListN.{length, getD};
+ghost use lib.ListN.{length};
 ghost use Rattle.flags.specs.Flags.{bitAt, raised, startFlags};
 
-// Is the flag of block i of row n raised?
-pub fn is_raised(flags: &[u32], n: usize, i: usize) -> bool
-    requires { ⌜ (n < length (now flags)) × (i < 32) ⌝ }
-    ensures { λ r. ⌜ r ≡ eqb (bitAt (getD (now (flags .entry)) n 0) i) 1 ⌝ }
+// Is bit i of a number set?
+pub fn has_bit(x: u32, i: usize) -> bool
+    requires { ⌜ i < 32 ⌝ }
+    ensures { λ r. ⌜ r ≡ eqb (bitAt x i) 1 ⌝ }
 {
-    (flags[n] >> i) % 2 == 1
+    (x >> i) % 2 == 1
 }
 
 // A number with bit i set, if `on` says so.

@@ -3,4 +3,5 @@ pub mod Kept
 pub mod Steps
 pub mod Told
 pub mod Flags
+pub mod Empty
 pub mod Links

@@ -51,37 +51,11 @@ pub record Filed (t : List ℤ) (l : Layout) : Type 0 where
   pub laid : Laid l
   pub inside : cellsIn l ≤ length t
 
--- Which block of the table the one of a length, a stage and a place is.
-abbrev pub flagAt : Layout → (len stage place : ℕ) → ℕ
-flagAt l n stage p = (n * 2 + stage) * l .places + p
-
--- Block b is one of the table's.
-abbrev pub Block : Layout → ℕ → Type 0
-Block l b = (b + 1) * l .block ≤ cellsIn l
-
--- A flag for each block: where it is a mark, all cells of the block are.
-pub record Flagged (l : Layout) (t f : List ℤ) : Type 0 where
-  pub long : cellsIn l ≤ length f
-  pub marks : (b k : ℕ) → Block l b → k < l .block → ltZ mark (cellAt f b) ≡ false → cellAt t (b * l .block + k) ≡ mark
-
--- The flags g are right for the table t, and past the table's cells as f was.
-pub record Marked (l : Layout) (t f g : List ℤ) : Type 0 where
-  pub flagged : Flagged l t g
-  pub long : length g ≡ length f
-  pub past : (i : ℕ) → cellsIn l ≤ i → cellAt g i ≡ cellAt f i
-
--- No flag of g is a mark; past the table's cells it is as f was.
-pub record Raised (l : Layout) (f g : List ℤ) : Type 0 where
-  pub none : (b : ℕ) → Block l b → ltZ mark (cellAt g b) ≡ true
-  pub long : length g ≡ length f
-  pub past : (i : ℕ) → cellsIn l ≤ i → cellAt g i ≡ cellAt f i
-
 -- ---- within a tick
 
--- The flag is that of the block at `at`.
-pub record FlagOf (l : Layout) (at flag : ℕ) : Type 0 where
-  pub is : at ≡ flag * l .block
-  pub block : Block l flag
+-- The n cells from a hold only marks.
+abbrev pub Empty : List ℤ → (a n : ℕ) → Type 0
+Empty t a n = (k : ℕ) → k < n → cellAt t (a + k) ≡ mark
 
 -- The n cells from a hold marks or worths that can grow.
 pub record Bounded (t : List ℤ) (a n : ℕ) : Type 0 where

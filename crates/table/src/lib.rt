@@ -1,7 +1,6 @@
 // The moves of one occupied cell of a monitor's table in a tick (document 01, 'Monitor tables'): its clocks and its worth are
 // moved by a tick; it stays, and goes along the edges out of its place whose guards hold. What is offered to an end place
-// just entered is noted for the report as it is offered. A second slice has a flag for each block: a mark where all its cells
-// are marks, so that it need not be looked at.
+// just entered is noted for the report as it is offered. A block into which a worth is moved has its flag raised.
 pub mod report;
 
 use self::report::Report;
@@ -10,9 +9,8 @@ use cells::Layout;
 use cells::block_at;
 use cells::code;
 use cells::tick_clocks;
+use flags::raise;
 use pattern::Edge;
-use pattern::Guard;
-use pattern::Sign;
 use steps::after;
 use steps::goes;
 use steps::leads_to;
@@ -23,16 +21,16 @@ use weighting::combine;
 ghost use mathlib.Core.Path.{_≡_};
 ghost use mathlib.Core.Bool.{cond, true};
 ghost use Prim.Native.Nat.{_+_, _*_, _≤_, _<_};
-ghost use lib.ListN.{length, set};
-ghost use lib.IntN.{pos};
+ghost use lib.ListN.{length};
 ghost use Rattle.weighting.specs.Cell.{mark};
 ghost use Rattle.cells.specs.Layout.{Laid};
-ghost use Rattle.cells.specs.Index.{codeOf, Within, blockAt, Placed};
+ghost use Rattle.flags.specs.Flags.{raised, Flagged, Grown};
+ghost use Rattle.cells.specs.Index.{codeOf, Within, blockAt};
 ghost use Rattle.pattern.specs.Clocks.{guardsHold, afterResets};
 ghost use Rattle.steps.specs.Steps.{StepOf};
-ghost use Rattle.table.specs.Moves.{offered, still, moved, stayOf, sentOf};
+ghost use Rattle.table.specs.Moves.{offered, moved, stayOf, sentOf};
 ghost use Rattle.table.specs.Reports.{toldMove};
-ghost use Rattle.table.specs.Asks.{Sourced, Linked, Moving, Staying, flagAt, Flagged, Marked};
+ghost use Rattle.table.specs.Asks.{Sourced, Linked, Moving, Staying};
 
 // What one tick gains in each place, by stage: just entered, or staying. MARK where the place cannot be stayed in.
 pub struct View {
@@ -68,37 +66,11 @@ fn offer(table: &mut [i64], w: Weighing, j: usize, worth: i64)
     table[j] = choose(w, old, worth);
 }
 
-// Which of the table's blocks the one of a length, a stage and a place is.
-pub fn flag_at(l: Layout, n: usize, stage: usize, p: usize) -> usize
-    requires { ⌜ Placed l n stage p ⌝ }
-    ensures { λ r. ⌜ r ≡ flagAt l n stage p ⌝ }
-{
-    (n * 2 + stage) * l.places + p
-}
-
-// Staying is an edge without guards and resets.
-fn stay(place: u8) -> Edge
-    ensures { λ r. ⌜ r ≡ still place ⌝ }
-{
-    let none = Guard {
-        sign: Sign::Less,
-        clock: 0,
-        bound: 0,
-    };
-    Edge {
-        from: place,
-        to: place,
-        guards: [none, none, none, none],
-        count: 0,
-        resets: [false, false, false, false],
-    }
-}
-
 // A worth with these clocks, both a tick later, moved along e into the block at `to`, if e can be taken; its flag is then
-// no mark. Whether e can be taken, and to which cell, is given: only the contract speaks of the layout, e and the clocks.
+// raised. Whether e can be taken, and to which cell, is given: only the contract speaks of the layout, e and the clocks.
 fn turn(
     table: &mut [i64],
-    flags: &mut [i64],
+    flags: &mut [u32],
     l: Layout,
     w: Weighing,
     e: Edge,
@@ -106,17 +78,19 @@ fn turn(
     can: bool,
     cell: usize,
     to: usize,
+    row: usize,
     flag: usize,
     worth: i64,
 )
-    requires { ⌜ (Laid l) × (Within (l .radices) clocks) × (to + l .block ≤ length (now table)) × (flag < length (now flags))
-        × (can ≡ guardsHold clocks e) × (cell ≡ codeOf (l .radices) (afterResets e clocks)) ⌝ }
-    ensures { λ _. ⌜ now (flags .exit) ≡ cond (guardsHold clocks e) (set (now (flags .entry)) flag (pos 0)) (now (flags .entry)) ⌝ }
+    requires { ⌜ (Laid l) × (Within (l .radices) clocks) × (to + l .block ≤ length (now table))
+        × (can ≡ guardsHold clocks e) × (cell ≡ codeOf (l .radices) (afterResets e clocks))
+        × (row < length (now flags)) × (flag < 32) ⌝ }
+    ensures { λ _. ⌜ now (flags .exit) ≡ cond (guardsHold clocks e) (raised (now (flags .entry)) row flag) (now (flags .entry)) ⌝ }
     ensures { λ _. ⌜ now (table .exit) ≡ moved l w e to clocks worth (now (table .entry)) ⌝ }
 {
     if can {
         offer(table, w, to + cell, worth);
-        flags[flag] = 0;
+        raise(flags, row, flag);
     }
 }
 
@@ -124,7 +98,7 @@ fn turn(
 // Only the contract speaks of e.
 pub fn leave(
     table: &mut [i64],
-    flags: &mut [i64],
+    flags: &mut [u32],
     l: Layout,
     w: Weighing,
     e: Edge,
@@ -140,15 +114,27 @@ pub fn leave(
         × (i < 32) × (StepOf e (now steps) i) ⌝ }
     ensures { λ q. ⌜ q ≡ toldMove w (now (tells .entry)) n clocks worth e r ⌝ }
     ensures { λ _. ⌜ now (table .exit) ≡ moved l w e (blockAt l (n + 1) 0 (e .to)) clocks worth (now (table .entry)) ⌝ }
-    ensures { λ _. ⌜ Marked l (now (table .exit)) (now (flags .entry)) (now (flags .exit)) ⌝ }
+    ensures { λ _. ⌜ Grown l (now (table .exit)) (now (flags .entry)) (now (flags .exit)) ⌝ }
 {
     let end = leads_to(steps, i);
     let to = block_at(l, n + 1, 0, end);
-    let flag = flag_at(l, n + 1, 0, end);
     let can = goes(steps, i, clocks);
     let reset = after(steps, i, clocks);
     let cell = code(l, reset);
-    turn(table, flags, l, w, e, clocks, can, cell, to, flag, worth);
+    turn(
+        table,
+        flags,
+        l,
+        w,
+        e,
+        clocks,
+        can,
+        cell,
+        to,
+        n + 1,
+        end,
+        worth,
+    );
     let told = tells[end];
     note_if(w, can & told, r, worth, n + 1)
 }
@@ -162,7 +148,6 @@ pub struct Sent {
 // A worth with these clocks, in p: a tick later it stays in p, and is then sent along edges.
 pub fn visit(
     table: &mut [i64],
-    flags: &mut [i64],
     l: Layout,
     w: Weighing,
     gain: i64,
@@ -171,18 +156,15 @@ pub fn visit(
     clocks: [usize; 4],
     worth: i64,
 ) -> Sent
-    requires { ⌜ (Staying (now table) l gain worth n p) × (Flagged l (now table) (now flags)) ⌝ }
+    requires { ⌜ Staying (now table) l gain worth n p ⌝ }
     ensures { λ r. ⌜ r ≡ sentOf l w gain clocks worth ⌝ }
     ensures { λ _. ⌜ now (table .exit) ≡ stayOf l w gain n p clocks worth (now (table .entry)) ⌝ }
-    ensures { λ _. ⌜ Marked l (now (table .exit)) (now (flags .entry)) (now (flags .exit)) ⌝ }
 {
     let ticked = tick_clocks(l, clocks);
     let grown = combine(w, worth, gain);
-    let e = stay(p as u8);
     let to = block_at(l, n + 1, 1, p);
-    let flag = flag_at(l, n + 1, 1, p);
     let cell = code(l, ticked);
-    turn(table, flags, l, w, e, ticked, true, cell, to, flag, grown);
+    offer(table, w, to + cell, grown);
     Sent {
         clocks: ticked,
         worth: grown,

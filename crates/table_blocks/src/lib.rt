@@ -1,6 +1,7 @@
 // The moves of all occupied cells of a block (one length, stage and place) of a monitor's table in a tick.
 use cells::Layout;
 use cells::clocks_to;
+use flags::raise;
 use pattern::Edge;
 use table::Spot;
 use table::leave;
@@ -9,14 +10,15 @@ use table::visit;
 use weighting::MARK;
 use weighting::Weighing;
 ghost use mathlib.Core.Path.{_≡_};
-ghost use mathlib.Core.Bool.{true};
+ghost use mathlib.Core.Bool.{true, false};
 ghost use Prim.Native.Nat.{_+_, _≤_, _<_};
 ghost use lib.ListN.{length};
 ghost use lib.Signed.{ltZ};
 ghost use Rattle.weighting.specs.Cell.{mark};
 ghost use Rattle.table.specs.Moves.{leavesOf, visitsOf, passOf};
 ghost use Rattle.table.specs.Reports.{toldLeaves, toldVisits, toldPass};
-ghost use Rattle.table.specs.Asks.{Edges, Moving, Passing, Occupied, Flagged, FlagOf, Marked};
+ghost use Rattle.flags.specs.Flags.{flagAt, Flagged, IsRaised, Grown};
+ghost use Rattle.table.specs.Asks.{Edges, Moving, Passing, Occupied, Empty};
 
 // The first occupied cell of the block at `at` from cell k on: each cell is looked at once.
 fn occupied(table: &[i64], at: usize, k: usize, size: usize) -> Spot
@@ -41,7 +43,7 @@ fn occupied(table: &[i64], at: usize, k: usize, size: usize) -> Spot
 // are gone through.
 fn leaves(
     table: &mut [i64],
-    flags: &mut [i64],
+    flags: &mut [u32],
     l: Layout,
     w: Weighing,
     edges: [Edge; 32],
@@ -59,7 +61,7 @@ fn leaves(
         × (Flagged l (now table) (now flags)) ⌝ }
     ensures { λ q. ⌜ q ≡ toldLeaves w edges (now (tells .entry)) n p clocks worth count r ⌝ }
     ensures { λ _. ⌜ now (table .exit) ≡ leavesOf l w edges n p clocks worth count (now (table .entry)) ⌝ }
-    ensures { λ _. ⌜ Marked l (now (table .exit)) (now (flags .entry)) (now (flags .exit)) ⌝ }
+    ensures { λ _. ⌜ Grown l (now (table .exit)) (now (flags .entry)) (now (flags .exit)) ⌝ }
 {
     let mut best = r;
     let mut i = links[32 + p] as usize;
@@ -84,10 +86,11 @@ fn leaves(
     best
 }
 
-// All occupied cells of the block, from the first one on, each with its clocks.
+// All occupied cells of the block, from the first one on, each with its clocks. The flag of the block that they stay in is
+// raised already, once for all of them.
 fn visits(
     table: &mut [i64],
-    flags: &mut [i64],
+    flags: &mut [u32],
     l: Layout,
     w: Weighing,
     edges: [Edge; 32],
@@ -103,10 +106,11 @@ fn visits(
     r: Report,
 ) -> Report
     requires { ⌜ (Passing (now table) l gain n p at) × (Edges l edges count (now links) (now steps)) × (ltZ mark gain ≡ true)
-        × (Occupied (now table) at (l .block) 0 start) × (Flagged l (now table) (now flags)) ⌝ }
+        × (Occupied (now table) at (l .block) 0 start) × (Flagged l (now table) (now flags))
+        × (IsRaised (now flags) (n + 1) (flagAt l 1 p)) ⌝ }
     ensures { λ q. ⌜ q ≡ toldVisits l w edges count (now (tells .entry)) gain n p at (l .block) (now (table .entry)) r ⌝ }
     ensures { λ _. ⌜ now (table .exit) ≡ visitsOf l w edges count gain n p at (l .block) (now (table .entry)) ⌝ }
-    ensures { λ _. ⌜ Marked l (now (table .exit)) (now (flags .entry)) (now (flags .exit)) ⌝ }
+    ensures { λ _. ⌜ Grown l (now (table .exit)) (now (flags .entry)) (now (flags .exit)) ⌝ }
 {
     let size = l.block;
     let mut best = r;
@@ -117,7 +121,7 @@ fn visits(
         let k = spot.cell;
         let v = spot.worth;
         let here = clocks_to(l, clocks, last, k);
-        let sent = visit(table, flags, l, w, gain, n, p, here, v);
+        let sent = visit(table, l, w, gain, n, p, here, v);
         let ticked = sent.clocks;
         let worth = sent.worth;
         best = leaves(
@@ -143,10 +147,10 @@ fn visits(
     best
 }
 
-// The block, unless its place cannot be stayed in or no cell of it is occupied. If none is, its flag says so from now on.
+// The block, unless its place cannot be stayed in or, as its flag says, it holds only marks.
 pub fn pass(
     table: &mut [i64],
-    flags: &mut [i64],
+    flags: &mut [u32],
     l: Layout,
     w: Weighing,
     edges: [Edge; 32],
@@ -158,39 +162,36 @@ pub fn pass(
     n: usize,
     p: usize,
     at: usize,
-    flag: usize,
+    held: bool,
     r: Report,
 ) -> Report
     requires { ⌜ (Passing (now table) l gain n p at) × (Edges l edges count (now links) (now steps)) × (Flagged l (now table) (now flags))
-        × (FlagOf l at flag) ⌝ }
+        × (held ≡ false → Empty (now table) at (l .block)) ⌝ }
     ensures { λ q. ⌜ q ≡ toldPass l w edges count (now (tells .entry)) gain n p at (now (table .entry)) r ⌝ }
     ensures { λ _. ⌜ now (table .exit) ≡ passOf l w edges count gain n p at (now (table .entry)) ⌝ }
-    ensures { λ _. ⌜ Marked l (now (table .exit)) (now (flags .entry)) (now (flags .exit)) ⌝ }
+    ensures { λ _. ⌜ Grown l (now (table .exit)) (now (flags .entry)) (now (flags .exit)) ⌝ }
 {
-    let f = flags[flag];
     if MARK < gain {
-        if MARK < f {
+        if held {
             let start = occupied(table, at, 0, l.block);
-            if start.cell < l.block {
-                return visits(
-                    table,
-                    flags,
-                    l,
-                    w,
-                    edges,
-                    count,
-                    links,
-                    steps,
-                    tells,
-                    gain,
-                    n,
-                    p,
-                    at,
-                    start,
-                    r,
-                );
-            }
-            flags[flag] = MARK;
+            raise(flags, n + 1, l.places + p);
+            return visits(
+                table,
+                flags,
+                l,
+                w,
+                edges,
+                count,
+                links,
+                steps,
+                tells,
+                gain,
+                n,
+                p,
+                at,
+                start,
+                r,
+            );
         }
     }
     r

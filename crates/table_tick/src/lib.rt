@@ -2,10 +2,11 @@
 // A tick moves length n to n + 1, so row n + 1 is cleared and row n offered into it, from the longest to the shortest.
 use cells::Layout;
 use cells::block_at;
+use flags::has_bit;
+use flags::raise_starts;
 use pattern::Edge;
 use steps::steps_of;
 use table::View;
-use table::flag_at;
 use table::links_of;
 use table::report::Report;
 use table::report::no_report;
@@ -14,14 +15,15 @@ use weighting::MARK;
 use weighting::Weighing;
 use weighting::unit;
 ghost use mathlib.Core.Path.{_≡_};
-ghost use mathlib.Core.Bool.{cond};
+ghost use mathlib.Core.Bool.{false, cond};
 ghost use Prim.Native.Nat.{_+_, _*_, _≤_, _<_};
 ghost use lib.ListN.{length, set};
 ghost use Rattle.weighting.specs.Cell.{mark};
 ghost use Rattle.cells.specs.Layout.{Laid, cellsIn};
 ghost use Rattle.table.specs.Moves.{marked, cleared, gainIn, placeOf, placesOf, rowOf, rowsOf, startsOf, begun, tickOf, openOf};
 ghost use Rattle.table.specs.Reports.{toldPlace, toldPlaces, tellsAt, toldRow, toldOf};
-ghost use Rattle.table.specs.Asks.{Known, Ticking, Filed, Routed, Edges, Placing, Ready, Rows, Block, Flagged, Marked, Raised};
+ghost use Rattle.table.specs.Asks.{Known, Ticking, Filed, Routed, Edges, Placing, Ready, Rows, Empty};
+ghost use Rattle.flags.specs.Flags.{RowFlagged, Flagged, Grown};
 
 // The mark in the cells from `from` to `to`.
 pub fn clear(table: &mut [i64], from: usize, to: usize)
@@ -45,7 +47,7 @@ fn gain_in(entered: i64, staying: i64, stage: usize) -> i64
 // The cells of length n in place p, of both stages. One call of `pass`, so that the compiler puts it into the loop.
 fn place(
     table: &mut [i64],
-    flags: &mut [i64],
+    flags: &mut [u32],
     l: Layout,
     w: Weighing,
     edges: [Edge; 32],
@@ -63,14 +65,15 @@ fn place(
         × (Flagged l (now table) (now flags)) ⌝ }
     ensures { λ q. ⌜ q ≡ toldPlace l w edges count (now (tells .entry)) entered staying n p (now (table .entry)) r ⌝ }
     ensures { λ _. ⌜ now (table .exit) ≡ placeOf l w edges count entered staying n p (now (table .entry)) ⌝ }
-    ensures { λ _. ⌜ Marked l (now (table .exit)) (now (flags .entry)) (now (flags .exit)) ⌝ }
+    ensures { λ _. ⌜ Grown l (now (table .exit)) (now (flags .entry)) (now (flags .exit)) ⌝ }
 {
     let mut best = r;
     let mut stage: usize = 0;
     while stage < 2 {
         let gain = gain_in(entered, staying, stage);
         let at = block_at(l, n, stage, p);
-        let flag = flag_at(l, n, stage, p);
+        let flag = stage * l.places + p;
+        let held = has_bit(flags[n], flag);
         best = pass(
             table,
             flags,
@@ -85,7 +88,7 @@ fn place(
             n,
             p,
             at,
-            flag,
+            held,
             best,
         );
         stage += 1;
@@ -96,7 +99,7 @@ fn place(
 // Row n into row n + 1, place by place: each cell of row n is looked at once.
 fn row(
     table: &mut [i64],
-    flags: &mut [i64],
+    flags: &mut [u32],
     l: Layout,
     w: Weighing,
     v: View,
@@ -112,7 +115,7 @@ fn row(
         × (Flagged l (now table) (now flags)) ⌝ }
     ensures { λ q. ⌜ q ≡ toldPlaces l w v edges count (now (tells .entry)) n (l .places) (now (table .entry)) r ⌝ }
     ensures { λ _. ⌜ now (table .exit) ≡ placesOf l w v edges count n (l .places) (now (table .entry)) ⌝ }
-    ensures { λ _. ⌜ Marked l (now (table .exit)) (now (flags .entry)) (now (flags .exit)) ⌝ }
+    ensures { λ _. ⌜ Grown l (now (table .exit)) (now (flags .entry)) (now (flags .exit)) ⌝ }
 {
     let m = l.places;
     let mut best = r;
@@ -148,40 +151,49 @@ fn tells_at(ends: [bool; 16], low: usize, ticks: usize) -> [bool; 16]
     if ticks < low { [false; 16] } else { ends }
 }
 
-// The mark in all cells of block b, unless its flag says that they are marks.
-fn wipe_block(table: &mut [i64], flags: &mut [i64], l: Layout, b: usize)
-    requires { ⌜ (Laid l) × (cellsIn l ≤ length (now table)) × (Flagged l (now table) (now flags)) × (Block l b) ⌝ }
-    ensures { λ _. ⌜ now (table .exit) ≡ marked (now (table .entry)) (b * l .block) (l .block) ⌝ }
-    ensures { λ _. ⌜ Marked l (now (table .exit)) (now (flags .entry)) (now (flags .exit)) ⌝ }
+// The mark in all cells of a block, unless it holds only marks.
+fn wipe_block(table: &mut [i64], at: usize, size: usize, held: bool)
+    requires { ⌜ (at + size ≤ length (now table)) × (held ≡ false → Empty (now table) at size) ⌝ }
+    ensures { λ _. ⌜ now (table .exit) ≡ marked (now (table .entry)) at size ⌝ }
 {
-    let f = flags[b];
-    if MARK < f {
-        let size = l.block;
-        let at = b * size;
+    if held {
         clear(table, at, at + size);
-        flags[b] = MARK;
     }
 }
 
-// The mark in all cells of row n.
-fn wipe_row(table: &mut [i64], flags: &mut [i64], l: Layout, n: usize)
-    requires { ⌜ (Laid l) × (cellsIn l ≤ length (now table)) × (Flagged l (now table) (now flags)) × (n ≤ l .high) ⌝ }
-    ensures { λ _. ⌜ now (table .exit) ≡ cleared (now (table .entry)) (n * l .row) (n * l .row + l .row) ⌝ }
-    ensures { λ _. ⌜ Marked l (now (table .exit)) (now (flags .entry)) (now (flags .exit)) ⌝ }
+// The mark in all cells of row n, whose flags are given.
+fn wipe_blocks(table: &mut [i64], l: Layout, n: usize, flags: u32)
+    requires { ⌜ (Laid l) × (cellsIn l ≤ length (now table)) × (n ≤ l .high) × (RowFlagged l (now table) flags n) ⌝ }
+    ensures { λ _. ⌜ now (table .exit) ≡ marked (now (table .entry)) (n * l .row) (l .row) ⌝ }
 {
+    let size = l.block;
     let count = 2 * l.places;
-    let from = n * count;
+    let from = n * l.row;
     let mut i: usize = 0;
     while i < count {
-        wipe_block(table, flags, l, from + i);
+        let held = has_bit(flags, i);
+        wipe_block(table, from + i * size, size, held);
         i += 1;
     }
 }
 
-// Row n + 1 anew, from row n.
+// The mark in all cells of row n. A row without a flag holds only marks.
+fn wipe_row(table: &mut [i64], flags: &mut [u32], l: Layout, n: usize)
+    requires { ⌜ (Laid l) × (cellsIn l ≤ length (now table)) × (Flagged l (now table) (now flags)) × (n ≤ l .high) ⌝ }
+    ensures { λ _. ⌜ now (table .exit) ≡ cleared (now (table .entry)) (n * l .row) (n * l .row + l .row) ⌝ }
+    ensures { λ _. ⌜ Flagged l (now (table .exit)) (now (flags .exit)) ⌝ }
+{
+    let f = flags[n];
+    if 0 < f {
+        wipe_blocks(table, l, n, f);
+        flags[n] = 0;
+    }
+}
+
+// Row n + 1 anew, from row n, of which nothing is looked at if it has no flag.
 fn advance(
     table: &mut [i64],
-    flags: &mut [i64],
+    flags: &mut [u32],
     l: Layout,
     w: Weighing,
     v: View,
@@ -198,9 +210,13 @@ fn advance(
         × (Flagged l (now table) (now flags)) ⌝ }
     ensures { λ q. ⌜ q ≡ toldRow l w v edges count ends low n (now (table .entry)) r ⌝ }
     ensures { λ _. ⌜ now (table .exit) ≡ rowOf l w v edges count n (now (table .entry)) ⌝ }
-    ensures { λ _. ⌜ Marked l (now (table .exit)) (now (flags .entry)) (now (flags .exit)) ⌝ }
+    ensures { λ _. ⌜ Flagged l (now (table .exit)) (now (flags .exit)) ⌝ }
 {
     wipe_row(table, flags, l, n + 1);
+    let f = flags[n];
+    if f == 0 {
+        return r;
+    }
     let tells = tells_at(ends, low, n + 1);
     row(
         table,
@@ -221,7 +237,7 @@ fn advance(
 // All rows, the longest first.
 fn rows(
     table: &mut [i64],
-    flags: &mut [i64],
+    flags: &mut [u32],
     l: Layout,
     w: Weighing,
     v: View,
@@ -236,7 +252,7 @@ fn rows(
         × (Flagged l (now table) (now flags)) ⌝ }
     ensures { λ q. ⌜ q ≡ toldOf l w v edges count ends low (now (table .entry)) ⌝ }
     ensures { λ _. ⌜ now (table .exit) ≡ rowsOf l w v edges count (l .high) (now (table .entry)) ⌝ }
-    ensures { λ _. ⌜ Marked l (now (table .exit)) (now (flags .entry)) (now (flags .exit)) ⌝ }
+    ensures { λ _. ⌜ Flagged l (now (table .exit)) (now (flags .exit)) ⌝ }
 {
     let mut best = no_report();
     let mut n = l.high;
@@ -292,23 +308,10 @@ fn begin(table: &mut [i64], l: Layout, w: Weighing, starts: [bool; 16])
     seeds(table, starts, l.places, l.block, empty);
 }
 
-// No block's flag is a mark, so that all are looked at once.
-pub fn raise(flags: &mut [i64], l: Layout)
-    requires { ⌜ (Laid l) × (cellsIn l ≤ length (now flags)) ⌝ }
-    ensures { λ _. ⌜ Raised l (now (flags .entry)) (now (flags .exit)) ⌝ }
-{
-    let count = (l.high + 1) * 2 * l.places;
-    let mut b: usize = 0;
-    while b < count {
-        flags[b] = 0;
-        b += 1;
-    }
-}
-
 // The table one tick later, and the report of its ends. Cells past those needed are untouched.
 pub fn tick(
     table: &mut [i64],
-    flags: &mut [i64],
+    flags: &mut [u32],
     l: Layout,
     w: Weighing,
     v: View,
@@ -321,7 +324,7 @@ pub fn tick(
     requires { ⌜ (Ticking (now table) l v edges count) × (Flagged l (now table) (now flags)) ⌝ }
     ensures { λ q. ⌜ q ≡ toldOf l w v edges count ends low (now (table .entry)) ⌝ }
     ensures { λ _. ⌜ now (table .exit) ≡ tickOf l w v edges count starts (now (table .entry)) ⌝ }
-    ensures { λ _. ⌜ Marked l (now (table .exit)) (now (flags .entry)) (now (flags .exit)) ⌝ }
+    ensures { λ _. ⌜ Flagged l (now (table .exit)) (now (flags .exit)) ⌝ }
 {
     let links = links_of(edges, count);
     let steps = steps_of(edges, count);
@@ -340,7 +343,7 @@ pub fn tick(
     );
     wipe_row(table, flags, l, 0);
     begin(table, l, w, starts);
-    seeds(flags, starts, l.places, 1, 0);
+    raise_starts(flags, starts, l.places);
     told
 }
 

@@ -8,9 +8,7 @@ use lib.ListN.{length, getD}
 use lib.IntN.{ℤ, pos}
 use Rattle.monitor.specs.Tick.{scoreIn, lengthIn}
 use Rattle.feed_ticks.specs.Ticks.{repeated}
-use Rattle.table.proofs.Flags.{raised-flagged, marked-trans}
-use Rattle.feed.proofs.Lists.{marks-past}
-use Rattle.feed.proofs.Meaning.{layout-made, fine-whole, telling, written-to, scores-told, lengths-told}
+use Rattle.feed.proofs.Meaning.{fine-whole, telling, written-to, scores-told, lengths-told}
 use Rattle.feed.proofs.Still.{table-still, reports-still}
 use Rattle.feed.proofs.tell_piece.Statement.{statement}
 use Rattle.feed.proofs.tell_piece.Tie as tie
@@ -48,41 +46,30 @@ least-requires c κs = search needs
 cast-moved : tie.Need-cast-moved
 cast-moved c = search needs
 
-raise-requires : tie.Need-raise-requires
-raise-requires c κs =
-    let s = c .before .before .before .before .before .before .before .before .before .before .before .before in
-    let m = layout-made (s .args .p) (s .pre .0) _ (c .before .before .before .before .before .before .before .before .before .before .layout-of .ensures) in
-    let e = m .1 in
-    let long = s .pre .6 in
-    (m .0, omega arith)
-
 tell-all-requires : tie.Need-tell-all-requires
 tell-all-requires c κs =
-    let s = c .before .before .before .before .before .before .before .before .before .before .before .before .before .before .before .before .before .before in
+    let s = c .before .before .before .before .before .before .before .before .before .before .before .before .before .before .before .before in
     let a = s .args in
     let sound = s .pre .0 in
     let fine = s .pre .1 in
     let long = s .pre .2 in
     let whole = fine-whole (a .p) sound (a .first .now) long (s .pre .3) in
-    let m = c .before .before .before .before .before .before .before .least .result in
-    let is : m ≡ min (a .duration) _ = c .before .before .before .before .before .before .before .least .ensures in
+    let m = c .before .before .before .before .least .result in
+    let is : m ≡ min (a .duration) _ = c .before .before .before .before .least .ensures in
     let scores = s .pre .4 in
-    let lengths = s .pre .5 in
-    let n = layout-made (a .p) sound _ (c .before .before .before .before .before .before .before .before .before .before .before .before .before .before .before .before .layout-of .ensures) in
-    let e = n .1 in
-    let wide = s .pre .6 in (
-      rw (c .before .before .before .before .before .before .before .before .before .before .before .before .before .before .before .before .layout-of .ensures, c .before .before .before .before .before .before .before .before .before .before .before .before .before .before .before .view-in .ensures, c .before .before .before .before .before .before .before .before .before .before .before .before .before .before .view-in2 .ensures, c .before .before .before .before .before .before .before .before .before .before .before .before .kind-flags .ensures, c .before .before .before .before .before .before .before .before .before .before .before .kind-flags2 .ensures)
+    let lengths = s .pre .5 in (
+      rw (c .before .before .before .before .before .before .before .before .before .before .before .before .before .layout-of .ensures, c .before .before .before .before .before .before .before .before .before .before .before .before .view-in .ensures, c .before .before .before .before .before .before .before .before .before .before .before .view-in2 .ensures, c .before .before .before .before .before .before .before .before .before .kind-flags .ensures, c .before .before .before .before .before .before .before .before .kind-flags2 .ensures)
           (telling (a .p) sound (a .values .now) fine (a .new) (a .first .now) long whole _ _ _ (omega arith) (omega arith)),
-      raised-flagged _ (a .first .now) (a .second .now) _ (omega arith) (c .before .before .before .before .before .raise .ensures) .flagged,
+      rw (c .before .before .before .before .before .before .before .before .before .before .before .before .before .layout-of .ensures) (s .pre .6),
     )
 
 repeat-last-requires : tie.Need-repeat-last-requires
 repeat-last-requires c κs =
-    let s = c .before .before .before .before .before .before .before .before .before .before .before .before .before .before .before .before .before .before .before .before .before .before .before .before .before .before in
+    let s = c .before .before .before .before .before .before .before .before .before .before .before .before .before .before .before .before .before .before .before .before .before .before .before .before .before in
     let a = s .args in
-    let m = c .before .before .before .before .before .before .before .before .before .before .before .before .before .before .before .least .result in
-    let is : m ≡ min (a .duration) _ = c .before .before .before .before .before .before .before .before .before .before .before .before .before .before .before .least .ensures in
-    let k = c .before .before .before .before .before .before .before .tell-all in
+    let m = c .before .before .before .before .before .before .before .before .before .before .before .before .before .least .result in
+    let is : m ≡ min (a .duration) _ = c .before .before .before .before .before .before .before .before .before .before .before .before .before .least .ensures in
+    let k = c .before .before .before .before .before .before .before .before .tell-all in
     let scores = s .pre .4 in
     let lengths = s .pre .5 in
     let scores-long : length (k .last .1 .1 .0) ≡ length (a .scores .now) = k .kept .1 .1 .0 in
@@ -105,26 +92,22 @@ same-length-4 c = search needs
 
 returns : tie.Need-returns
 returns c =
-    let s = c .before .before .before .before .before .before .before .before .before .before .before .before .before .before .before .before .before .before .before .before .before .before .before .before .before .before .before .before .before .before in
+    let s = c .before .before .before .before .before .before .before .before .before .before .before .before .before .before .before .before .before .before .before .before .before .before .before .before .before .before .before .before .before in
     let a = s .args in
     let sound = s .pre .0 in
     let fine = s .pre .1 in
     let long = s .pre .2 in
     let whole = fine-whole (a .p) sound (a .first .now) long (s .pre .3) in
-    let o = c .before .before .before .before .before .before .before .before .before .before .before .tell-all .ensures in
+    let o = c .before .before .before .before .before .before .before .before .before .before .before .before .tell-all .ensures in
     let r = c .before .before .before .repeat-last .ensures in
-    let m = c .before .before .before .before .before .before .before .before .before .before .before .before .before .before .before .before .before .before .before .least .result in
+    let m = c .before .before .before .before .before .before .before .before .before .before .before .before .before .before .before .before .before .least .result in
     let d = a .duration in
-    let is : m ≡ min d (a .p .high + 1) = c .before .before .before .before .before .before .before .before .before .before .before .before .before .before .before .before .before .before .before .least .ensures in
-    let l = c .before .before .before .before .before .before .before .before .before .before .before .before .before .before .before .before .before .before .before .before .before .before .before .before .before .before .before .before .layout-of .ensures in
-    let v = c .before .before .before .before .before .before .before .before .before .before .before .before .before .before .before .before .before .before .before .before .before .before .before .before .before .before .before .view-in .ensures in
-    let u = c .before .before .before .before .before .before .before .before .before .before .before .before .before .before .before .before .before .before .before .before .before .before .before .before .before .before .view-in2 .ensures in
-    let starts = c .before .before .before .before .before .before .before .before .before .before .before .before .before .before .before .before .before .before .before .before .before .before .before .before .kind-flags .ensures in
-    let ends = c .before .before .before .before .before .before .before .before .before .before .before .before .before .before .before .before .before .before .before .before .before .before .before .kind-flags2 .ensures in
-    let n = layout-made (a .p) sound _ l in
-    let e = n .1 in
-    let wide = s .pre .6 in
-    let f = raised-flagged _ (a .first .now) (a .second .now) _ (omega arith) (c .before .before .before .before .before .before .before .before .before .before .before .before .before .before .before .before .before .raise .ensures) in (
+    let is : m ≡ min d (a .p .high + 1) = c .before .before .before .before .before .before .before .before .before .before .before .before .before .before .before .before .before .least .ensures in
+    let l = c .before .before .before .before .before .before .before .before .before .before .before .before .before .before .before .before .before .before .before .before .before .before .before .before .before .before .layout-of .ensures in
+    let v = c .before .before .before .before .before .before .before .before .before .before .before .before .before .before .before .before .before .before .before .before .before .before .before .before .before .view-in .ensures in
+    let u = c .before .before .before .before .before .before .before .before .before .before .before .before .before .before .before .before .before .before .before .before .before .before .before .before .view-in2 .ensures in
+    let starts = c .before .before .before .before .before .before .before .before .before .before .before .before .before .before .before .before .before .before .before .before .before .before .kind-flags .ensures in
+    let ends = c .before .before .before .before .before .before .before .before .before .before .before .before .before .before .before .before .before .before .before .before .before .kind-flags2 .ensures in (
       o .0 ∙ rw (l, v, u, starts, ends) (written-to (a .p) sound (a .values .now) fine (a .new) (a .first .now) long whole m) ∙ table-still (a .p) sound (a .values .now) (a .new) (a .first .now) d m is,
       (
         r .0
@@ -134,7 +117,7 @@ returns c =
           r .1
               ∙ ap (λ (x : List ℕ). repeated x m (d - m) (getD x (m - 1) 0)) (o .1 .1 .0 ∙ rw (l, v, u, starts, ends) (lengths-told (a .p) sound (a .values .now) fine (a .new) (a .first .now) long whole (a .lengths .now) m))
               ∙ reports-still (a .p) sound (a .values .now) (a .new) (a .first .now) d m is lengthIn (a .lengths .now) 0 (s .pre .5),
-          marks-past (a .p) _ (n .1) (marked-trans f (o .1 .1 .1)),
+          rw (← l) (o .1 .1 .1),
         ),
       ),
     )
@@ -154,7 +137,6 @@ tell-piece-spec =
     add-still
     least-requires
     cast-moved
-    raise-requires
     tell-all-requires
     repeat-last-requires
     same-length

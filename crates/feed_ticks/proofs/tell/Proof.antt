@@ -16,10 +16,10 @@ tick-requires c κs = search needs
 
 cast-ticks : tie.Need-cast-ticks
 cast-ticks c =
-    let b = c .before .before .before .before .before .before .before .before in
+    let b = c .before .before .before .before .before .before .before .before .before .before in
     let a = b .args in
     let l = report-low (a .l) (a .w) (a .v) (a .edges) (a .count) (a .ends) (a .low) (a .first .now) in
-    let e : c .before .before .before .before .tick .result .length ≡ toldOf (a .l) (a .w) (a .v) (a .edges) (a .count) (a .ends) (a .low) (a .first .now) .length = ap (λ (r : Report). r .length) (c .before .before .before .before .tick .ensures .0) in
+    let e : c .before .before .before .before .before .tick .result .length ≡ toldOf (a .l) (a .w) (a .v) (a .edges) (a .count) (a .ends) (a .low) (a .first .now) .length = ap (λ (r : Report). r .length) (c .before .before .before .before .before .tick .ensures .0) in
     let short = b .pre .0 .known .laid .short in
     omega arith
 
@@ -49,9 +49,9 @@ same-length-4 c = search needs
 
 returns : tie.Need-returns
 returns c =
-    let b = c .before .before .before .before .tick in
+    let b = c .before .before .before .before .before .tick in
     let r = b .result in
-    let a = c .before .before .before .before .before .before .before .before .args in
+    let a = c .before .before .before .before .before .before .before .before .before .before .args in
     let score : toZ w64 (ofZ w64 (r .score)) ≡ r .score = toZ-ofZ (record { sfits = b .ok .1 .1 .0 .1 }) in
     (b .ensures .1 .0, (ap (set (a .scores .now) (a .i)) (score ∙ ap (λ (x : Report). x .score) (b .ensures .0)), (ap (set (a .lengths .now) (a .i)) (ap (λ (x : Report). x .length) (b .ensures .0)), b .ensures .1 .1)))
 

@@ -1,10 +1,10 @@
 use native.Mathlib.Omega.{arith}
 use Prim.Native.Nat.{_-_}
-use mathlib.Core.Path.{_≡_, sym, ap, subst, _∙_}
+use mathlib.Core.Path.{_≡_, refl, sym, ap, subst, _∙_}
 use lib.ListN.{length}
 use Rattle.table.specs.declared.View.{View}
-use Rattle.table.specs.Asks.{Ticking, Marked}
-use Rattle.table.proofs.Flags.{marked-refl, marked-trans}
+use Rattle.flags.specs.Flags.{Flagged}
+use Rattle.table.specs.Asks.{Ticking}
 use Rattle.feed_ticks.specs.Ticks.{groundOf, tableTo, scoresTo, lengthsTo}
 use Rattle.feed_ticks.proofs.Told.{Told, told-none, ticking-at, told-more}
 use Rattle.feed_ticks.proofs.tell_all.Statement.{statement}
@@ -12,7 +12,7 @@ use Rattle.feed_ticks.proofs.tell_all.Tie as tie
 
 abbrev Inv-loop : tie.InvT-loop
 Inv-loop first₀ flags₀ scores₀ lengths₀ duration l w v u edges count starts ends low i₀ first flags scores lengths i =
-    (Told (groundOf l w edges count starts ends low) v u first₀ scores₀ lengths₀ duration i first scores lengths) × (Marked l first flags₀ flags)
+    (Told (groundOf l w edges count starts ends low) v u first₀ scores₀ lengths₀ duration i first scores lengths) × ((length flags ≡ length flags₀) × (Flagged l first flags))
 
 abbrev μ-loop : tie.MeasureT-loop
 μ-loop first₀ flags₀ scores₀ lengths₀ duration l w v u edges count starts ends low i₀ first flags scores lengths i =
@@ -20,15 +20,15 @@ abbrev μ-loop : tie.MeasureT-loop
 
 loop-holds : tie.Need-loop-holds Inv-loop μ-loop
 loop-holds c =
-    let a = c .before .args in
-    (told-none (groundOf (a .l) (a .w) (a .edges) (a .count) (a .starts) (a .ends) (a .low)) (a .v) (a .u) (a .first .now) (a .scores .now) (a .lengths .now) (a .duration) (c .before .pre .0), marked-refl (c .before .pre .1))
+    let a = c .before .before .args in
+    (told-none (groundOf (a .l) (a .w) (a .edges) (a .count) (a .starts) (a .ends) (a .low)) (a .v) (a .u) (a .first .now) (a .scores .now) (a .lengths .now) (a .duration) (c .before .before .pre .0), (refl, c .before .before .pre .1))
 
 view-at-requires : tie.Need-view-at-requires Inv-loop μ-loop
 view-at-requires c κs = tt
 
 tell-requires : tie.Need-tell-requires Inv-loop μ-loop
 tell-requires c κs =
-    let b = c .before .before .before .before .before .before .before .before in
+    let b = c .before .before .before .before .before .before .before .before .before in
     let a = b .args in
     let l = c .before .before .before .before .before .before .loop in
     let t = c .before .before .before .before .before .loop-test .taken in
@@ -39,7 +39,7 @@ tell-requires c κs =
       subst (λ (x : View). Ticking (l .first) (a .l) x (a .edges) (a .count)) (sym (c .before .before .before .before .view-at .ensures)) (ticking-at (groundOf (a .l) (a .w) (a .edges) (a .count) (a .starts) (a .ends) (a .low)) (a .v) (a .u) (a .first .now) (a .scores .now) (a .lengths .now) (a .duration) (b .pre .0) (l .i) (l .first) (l .scores) (l .lengths) (l .inv .0)),
       omega arith,
       omega arith,
-      l .inv .1 .flagged,
+      l .inv .1 .1,
     )
 
 add-i : tie.Need-add-i Inv-loop μ-loop
@@ -50,21 +50,21 @@ loop-less c = omega arith
 
 loop-again : tie.Need-loop-again Inv-loop μ-loop
 loop-again c =
-    let b = c .before .before .before .before .before .before .before .before .before .before .before .before .before .before in
+    let b = c .before .before .before .before .before .before .before .before .before .before .before .before .before .before .before .before in
     let a = b .args in
-    let l = c .before .before .before .before .before .before .before .before .before .before .before .before .loop in
-    let e = c .before .before .before .before .before .tell .ensures in
-    let q = c .before .before .before .before .before .before .before .before .before .before .view-at .ensures in (
-      told-more (groundOf (a .l) (a .w) (a .edges) (a .count) (a .starts) (a .ends) (a .low)) (a .v) (a .u) (a .first .now) (a .scores .now) (a .lengths .now) (a .duration) (b .pre .0) (l .i) (l .first) (l .scores) _ _ (l .lengths) _ (l .inv .0) (c .before .before .before .before .before .before .before .before .before .before .before .loop-test .taken)
+    let l = c .before .before .before .before .before .before .before .before .before .before .before .before .before .loop in
+    let e = c .before .before .before .before .before .before .tell .ensures in
+    let q = c .before .before .before .before .before .before .before .before .before .before .before .view-at .ensures in (
+      told-more (groundOf (a .l) (a .w) (a .edges) (a .count) (a .starts) (a .ends) (a .low)) (a .v) (a .u) (a .first .now) (a .scores .now) (a .lengths .now) (a .duration) (b .pre .0) (l .i) (l .first) (l .scores) _ _ (l .lengths) _ (l .inv .0) (c .before .before .before .before .before .before .before .before .before .before .before .before .loop-test .taken)
           (rw q at (e .0)) (rw q at (e .1 .0)) (rw q at (e .1 .1 .0)),
-      marked-trans (l .inv .1) (e .1 .1 .1),
+      (c .before .before .before .before .before .before .tell .kept .1 .0 ∙ l .inv .1 .0, e .1 .1 .1),
     )
 
 same-length : tie.Need-same-length Inv-loop μ-loop
 same-length c = c .before .loop .inv .0 .first-long
 
 same-length-2 : tie.Need-same-length-2 Inv-loop μ-loop
-same-length-2 c = c .before .loop .inv .1 .long
+same-length-2 c = c .before .loop .inv .1 .0
 
 same-length-3 : tie.Need-same-length-3 Inv-loop μ-loop
 same-length-3 c = c .before .loop .inv .0 .scores-long
@@ -75,14 +75,14 @@ same-length-4 c = c .before .loop .inv .0 .lengths-long
 returns : tie.Need-returns Inv-loop μ-loop
 returns c =
     let l = c .before .loop in
-    let a = c .before .before .before .args in
+    let a = c .before .before .before .before .args in
     let low = l .inv .0 .low in
     let i-is : l .i ≡ a .duration = omega arith in
     let g = groundOf (a .l) (a .w) (a .edges) (a .count) (a .starts) (a .ends) (a .low) in (
       l .inv .0 .first-is ∙ ap (tableTo g (a .v) (a .u) (a .first .now)) i-is,
       (
         l .inv .0 .scores-are ∙ ap (scoresTo g (a .v) (a .u) (a .first .now) (a .scores .now)) i-is,
-        (l .inv .0 .lengths-are ∙ ap (lengthsTo g (a .v) (a .u) (a .first .now) (a .lengths .now)) i-is, l .inv .1),
+        (l .inv .0 .lengths-are ∙ ap (lengthsTo g (a .v) (a .u) (a .first .now) (a .lengths .now)) i-is, l .inv .1 .1),
       ),
     )
 

@@ -8,10 +8,10 @@ use mir.Facts.{toZ-ofZ}
 use Rattle.pattern.specs.Clocks.{afterResets}
 use Rattle.cells.specs.Index.{codeOf}
 use Rattle.cells.proofs.Digits.{reset-within}
-use borrow.Author.Needs.{needs}
 use Rattle.table.proofs.Steps.{small-clocks, next-in}
 use Rattle.table.proofs.Told.{told-move}
-use Rattle.table.proofs.Flags.{flag-in, flag-of, block-lt, flagged-moved}
+use Rattle.table.proofs.Flags.{entered-start, flagged-moved}
+use borrow.Author.Needs.{needs}
 use Rattle.table.proofs.leave.Statement.{statement}
 use Rattle.table.proofs.leave.Tie as tie
 
@@ -28,12 +28,6 @@ add-block-at c = search needs
 block-at-requires : tie.Need-block-at-requires
 block-at-requires c κs = search needs
 
-add-flag-at : tie.Need-add-flag-at
-add-flag-at c = search needs
-
-flag-at-requires : tie.Need-flag-at-requires
-flag-at-requires c κs = search needs
-
 goes-requires : tie.Need-goes-requires
 goes-requires c κs = search needs
 
@@ -41,25 +35,29 @@ after-requires : tie.Need-after-requires
 after-requires c κs = search needs
 
 code-requires : tie.Need-code-requires
-code-requires c κs = let st = c .before .before .before .before .before in
+code-requires c κs =
+    let st = c .before .before .before .before .before in
     let a = st .args in
     let r = c .after .ensures ∙ st .pre .4 .after (a .clocks) (four st) in
     (st .pre .0 .laid, rw r (reset-within (a .l .radices) (a .e) (a .clocks) (st .pre .0 .within)))
 
+add-turn : tie.Need-add-turn
+add-turn c = search needs
+
 turn-requires : tie.Need-turn-requires
-turn-requires c κs = let st = c .before .before .before .before .before .before .before .before in
+turn-requires c κs =
+    let st = c .before .before .before .before .before .before .before .before in
     let a = st .args in
     let m = st .pre .0 in
     let low = m .low in
-    let end = c .before .before .before .before .before .before .before .leads-to .ensures ∙ st .pre .4 .leads in
-    let to = rw end at (c .before .before .before .before .before .before .block-at .ensures) in
-    let flag = rw end at (c .before .before .before .before .before .flag-at .ensures) in
+    let end = c .before .before .before .before .before .before .leads-to .ensures ∙ st .pre .4 .leads in
+    let to = rw end at (c .before .before .before .before .before .block-at .ensures) in
     let can = c .before .before .before .before .goes .ensures ∙ st .pre .4 .goes (a .clocks) (small-clocks (a .l) (a .clocks) (m .laid) (m .within)) in
     let reset = c .before .before .before .after .ensures ∙ st .pre .4 .after (a .clocks) (four st) in
-    let f = flag-in (a .l) (a .n + 1) 0 (a .e .to) (record { laid = m .laid; low = omega arith; stages = omega arith; place = st .pre .1 }) in
-    let z = block-lt (a .l) _ (m .laid) f in
     let y = st .pre .2 .long in
-    (m .laid, m .within, next-in m to (omega arith) (st .pre .1), omega arith, can, rw reset at (c .before .before .code .ensures))
+    let few = m .laid .few in
+    let place = st .pre .1 in
+    (m .laid, m .within, next-in m to (omega arith) place, can, rw reset at (c .before .before .code .ensures), omega arith, rw end (omega arith))
 
 element-copy-out-told : tie.Need-element-copy-out-told
 element-copy-out-told c = search needs
@@ -77,19 +75,20 @@ same-length-2 : tie.Need-same-length-2
 same-length-2 c = search needs
 
 returns : tie.Need-returns
-returns c = let st = c .before .before .before .before .before .before .before .before .before .before .before .before .before in
+returns c =
+    let st = c .before .before .before .before .before .before .before .before .before .before .before .before .before .before in
     let a = st .args in
     let m = st .pre .0 in
     let low = m .low in
+    let place = st .pre .1 in
     let q = toZ-ofZ (st .fits .worth) in
     let end = c .before .before .before .before .before .before .before .before .before .before .before .before .leads-to .ensures ∙ st .pre .4 .leads in
     let to = rw end at (c .before .before .before .before .before .before .before .before .before .before .before .block-at .ensures) in
-    let flag = rw end at (c .before .before .before .before .before .before .before .before .before .before .flag-at .ensures) in
-    let can = c .before .before .before .before .before .before .before .before .before .goes .ensures ∙ st .pre .4 .goes (a .clocks) (small-clocks (a .l) (a .clocks) (m .laid) (m .within)) in
-    let t = c .before .before .before .before .turn .ensures in
+    let can = c .before .before .before .before .before .before .before .before .before .before .goes .ensures ∙ st .pre .4 .goes (a .clocks) (small-clocks (a .l) (a .clocks) (m .laid) (m .within)) in
+    let t = c .before .before .before .before .before .turn .ensures in
     let e = rw (q, to) at (t .1) in
-    let f = rw flag at (t .0) in
-    (told-move _ _ _ _ _ _ _ _ _ _ can (ap (λ (x : ℕ). getD (a .tells .now) x false) end) (rw q at (c .note-if .ensures)), (e, flagged-moved (a .l) (m .laid) (a .w) (a .e) _ _ (a .clocks) (a .worth) (a .table .now) (a .flags .now) _ _ (flag-of (a .l) (a .n + 1) 0 (a .e .to) (record { laid = m .laid; low = omega arith; stages = omega arith; place = st .pre .1 })) (m .within) (st .pre .2) e f))
+    let f = rw end at (t .0) in
+    (told-move _ _ _ _ _ _ _ _ _ _ can (ap (λ (x : ℕ). getD (a .tells .now) x false) end) (rw q at (c .note-if .ensures)), (e, flagged-moved (a .l) (m .laid) (a .w) (a .e) (a .n + 1) (a .e .to) _ (a .clocks) (a .worth) (a .table .now) (omega arith) (entered-start (a .l) (a .n + 1) (a .e .to)) (m .within) (a .flags .now) _ _ (omega arith) (st .pre .2) e f))
 
 pub leave-spec : {M : Type 1} → statement M
 leave-spec =
@@ -98,11 +97,10 @@ leave-spec =
     leads-to-requires
     add-block-at
     block-at-requires
-    add-flag-at
-    flag-at-requires
     goes-requires
     after-requires
     code-requires
+    add-turn
     turn-requires
     element-copy-out-told
     add-note-if

@@ -1,0 +1,30 @@
+-- What a loop over the cells of a table has found, one cell or one part of the table more.
+use Prim.Native.Nat.{ℕ, _+_, _*_, _<_}
+use native.Mathlib.Omega.{arith}
+use mathlib.Core.Path.{_≡_, refl}
+use mathlib.Core.List.{List}
+use mathlib.Core.Bool.{Bool, true, false, not, _&&_, _||_}
+use lib.ListN.{length, take, drop, getD, length-drop}
+use lib.Seq.{getD-drop, take-add, drop-drop}
+use lib.IntN.{ℤ, pos}
+use Rattle.pattern.specs.Slots.{all}
+use Rattle.pattern.proofs.ListLaws.{take-more}
+use Rattle.pattern.proofs.SlotLaws.{all-append, all-snoc}
+use Rattle.cells.proofs.Blocks.{row-next}
+
+module _ (f : ℤ → Bool) (t : List ℤ) (at i : ℕ) where
+  -- a cell more
+  pub cell-more : at + i < length t → all f (take (i + 1) (drop at t)) ≡ all f (take i (drop at t)) && f (getD t (at + i) (pos 0))
+  cell-more h =
+      let l = length-drop at t in
+      rw (take-more i (drop at t) (pos 0) (omega arith), ← getD-drop at t i (pos 0)) (all-snoc f (take i (drop at t)) (getD (drop at t) i (pos 0)))
+
+  -- a part of `size` cells more
+  pub part-more : (size : ℕ) → all f (take ((i + 1) * size) (drop at t)) ≡ all f (take (i * size) (drop at t)) && all f (take size (drop (at + i * size) t))
+  part-more size =
+      rw (row-next i size, take-add (i * size) size (drop at t), drop-drop (i * size) at t)
+      (all-append f (take (i * size) (drop at t)) (take size (drop (at + i * size) t)))
+
+pub not-and : (a b : Bool) → not (a && b) ≡ not a || not b
+not-and true b = refl
+not-and false b = refl

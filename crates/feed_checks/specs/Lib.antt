@@ -1,0 +1,2 @@
+-- When a cell holds no worth.
+pub mod Mark
