@@ -103,7 +103,7 @@ module _ (p : Pattern) (sound : soundOf p ≡ true) (b : Book) (c : Call) (rest 
     none-given =
         rw (le-leb 1 d some-ticks, le-leb d 65535 short, eq-eqb (length x) (p .channels) (value .0), value .1, le-ltb 2147483647 (length b + d) few, le-ltb (length (c .scores)) d scores, le-ltb (length (c .lengths)) d lengths)
 
-    given : feedRefusal p s t u c ≡ none
+    pub given : feedRefusal p s t u c ≡ none
     given = feed-given p b s t u between c none-given
 
     -- ---- afterwards

@@ -3,7 +3,7 @@ use Prim.Native.Nat.{ℕ, zero, suc, _+_, _-_, _*_, _≤_, _<_, min}
 use native.Mathlib.Omega.{arith}
 use mathlib.Core.Path.{_≡_, refl, sym, ap, subst, _∙_}
 use mathlib.Core.List.{List}
-use mathlib.Core.Option.{Option}
+use mathlib.Core.Option.{Option, none}
 use mathlib.Core.Bool.{true}
 use lib.ListN.{length, take, drop, getD, length-take, length-drop}
 use lib.IntN.{ℤ, pos}
@@ -21,20 +21,21 @@ use Rattle.book.specs.View as book
 use Rattle.monitor.specs.declared.State.{State}
 use Rattle.monitor.specs.Cells.{written}
 use Rattle.monitor.specs.Open.{marks}
-use Rattle.monitor.specs.Feed.{Call, feedState, feedFirst, feedSecond, feedScores, feedLengths}
-use Rattle.monitor.proofs.Written.{written-length, marks-length, written-again, marks-again}
+use Rattle.monitor.specs.Feed.{Call, feedRefusal, feedState, feedFirst, feedSecond, feedScores, feedLengths}
+use Rattle.monitor.proofs.Written.{written-length, written-again}
 use Rattle.monitor.proofs.Between.{Fine}
 use Rattle.best.specs.declared.Search.{Search}
 use Rattle.best.specs.Best.{Chosen, chosenTo, scoreAt, lengthAt}
 use Rattle.best.specs.Search.{tableTo, stateTo, chosenIn, chosenPast, chunkOf, SearchedTo, Fit}
 use Rattle.best.proofs.Choices.{past-is}
 use Rattle.best.proofs.Pieces.{fine-tick, front, rest, start, split, front-long, book-long, start-low}
-use Rattle.best.proofs.Chunk.{whole, state-after, first-after, second-after, score-after, length-after}
+use Rattle.best.proofs.Chunk.{whole, given, state-after, first-after, second-after, score-after, length-after}
 
 -- ---- a chunk
 
 -- what the code finds once it fed the chunk
 pub record Turned (p : Pattern) (B : Book) (q : State) (o : Option Chosen) (t u : List ℤ) (c : Call) (n : ℕ) : Type 0 where
+  pub accepted : feedRefusal p q t u c ≡ none
   pub state : feedState p q t u c ≡ stateTo p B (n + c .duration)
   pub choice : chosenPast p o (q .ticks) (feedScores p q t u c) (feedLengths p q t u c) (c .duration) ≡ chosenTo p B (n + c .duration)
   pub first : feedFirst p q t u c ≡ written p (tableTo p B (n + c .duration)) t
@@ -56,6 +57,7 @@ module _ (p : Pattern) (sound : soundOf p ≡ true) (b : Book) (c : Call) (after
       let W = whole p sound b c after in
       subst (λ (r : State). Turned p W r o t u c (length b)) (sym state)
       (record {
+        accepted = given p sound b c after few fine value some-ticks short scores lengths t u firstLong secondLong first;
         state = state-after p sound b c after few fine value some-ticks short scores lengths t u firstLong secondLong first;
         choice = past-is p W (length b) _ _ o (c .duration) chosen told;
         reports = told;
@@ -115,50 +117,47 @@ module _ (p : Pattern) (sound : soundOf p ≡ true) (ds : List ℕ) (vs : List �
 
   -- a turn of the loop over the first `count` ticks of a piece: `left` of them are left, and d more are fed
   module _ (i count left d : ℕ) (inside : i < length ds) (all : count ≤ getD ds i 0) (low : left ≤ count) (more : 0 < left) (is : d ≡ min left 64)
-      (s : Search) (t t₀ u u₀ : List ℤ) (firstLong : cellsNeeded p ≤ length t₀) (secondLong : cellsNeeded p ≤ length u₀) where
+      (s : Search) (t t₀ : List ℤ) (firstLong : cellsNeeded p ≤ length t₀) where
     abbrev at : ℕ → ℕ
     at k = total (take i ds) + (count - k)
 
     abbrev c : Call
     c = chunkOf d (sampleAt (p .channels) vs i)
 
-    module _ (searched : SearchedTo p B (at left) s) (first : t ≡ written p (tableTo p B (at left)) t₀) (second : u ≡ marks p u₀) where
+    module _ (searched : SearchedTo p B (at left) s) (first : t ≡ written p (tableTo p B (at left)) t₀) where
       long-first : length t ≡ length t₀
       long-first = ap length first ∙ written-length p sound (tableTo p B (at left)) t₀ firstLong
 
-      long-second : length u ≡ length u₀
-      long-second = ap length second ∙ marks-length p sound u₀ secondLong
-
-      turned : Turned p B (s .state) (chosenIn (s .choice)) t u c (at left)
+      turned : Turned p B (s .state) (chosenIn (s .choice)) t t c (at left)
       turned =
-          fed i (count - left) d inside (omega arith) (omega arith) (omega arith) (s .state) (chosenIn (s .choice)) t u
-          (let e = long-first in omega arith) (let e = long-second in omega arith) (searched .0) (searched .1)
+          fed i (count - left) d inside (omega arith) (omega arith) (omega arith) (s .state) (chosenIn (s .choice)) t t
+          (let e = long-first in omega arith) (let e = long-first in omega arith) (searched .0) (searched .1)
           (first ∙ sym (written-again p (tableTo p B (at left)) (tableTo p B (at left)) t₀) ∙ ap (written p (tableTo p B (at left))) (sym first))
 
       on : at left + d ≡ at (left - d)
       on = omega arith
 
-      state-on : feedState p (s .state) t u c ≡ stateTo p B (at (left - d))
+      state-on : feedState p (s .state) t t c ≡ stateTo p B (at (left - d))
       state-on = turned .state ∙ ap (stateTo p B) on
 
-      choice-on : chosenPast p (chosenIn (s .choice)) (s .state .ticks) (feedScores p (s .state) t u c) (feedLengths p (s .state) t u c) d ≡ chosenTo p B (at (left - d))
+      choice-on : chosenPast p (chosenIn (s .choice)) (s .state .ticks) (feedScores p (s .state) t t c) (feedLengths p (s .state) t t c) d ≡ chosenTo p B (at (left - d))
       choice-on = turned .choice ∙ ap (chosenTo p B) on
 
-      first-on : feedFirst p (s .state) t u c ≡ written p (tableTo p B (at (left - d))) t₀
+      first-on : feedFirst p (s .state) t t c ≡ written p (tableTo p B (at (left - d))) t₀
       first-on =
           turned .first ∙ ap (written p (tableTo p B (at left + d))) first
           ∙ written-again p (tableTo p B (at left + d)) (tableTo p B (at left)) t₀
           ∙ ap (λ (n : ℕ). written p (tableTo p B n) t₀) on
 
-      second-on : feedSecond p (s .state) t u c ≡ marks p u₀
-      second-on = turned .second ∙ ap (marks p) second ∙ marks-again p u₀
+      pub accepted-on : feedRefusal p (s .state) t t c ≡ none
+      accepted-on = turned .accepted
 
       -- what the turn finds
       pub onward :
-          ((feedState p (s .state) t u c ≡ stateTo p B (at (left - d)))
-          × (chosenPast p (chosenIn (s .choice)) (s .state .ticks) (feedScores p (s .state) t u c) (feedLengths p (s .state) t u c) d ≡ chosenTo p B (at (left - d))))
-          × (feedFirst p (s .state) t u c ≡ written p (tableTo p B (at (left - d))) t₀) × (feedSecond p (s .state) t u c ≡ marks p u₀)
-      onward = ((state-on, choice-on), first-on, second-on)
+          ((feedState p (s .state) t t c ≡ stateTo p B (at (left - d)))
+          × (chosenPast p (chosenIn (s .choice)) (s .state .ticks) (feedScores p (s .state) t t c) (feedLengths p (s .state) t t c) d ≡ chosenTo p B (at (left - d))))
+          × (feedFirst p (s .state) t t c ≡ written p (tableTo p B (at (left - d))) t₀)
+      onward = ((state-on, choice-on), first-on)
 
       pub room-on : s .state .ticks + d ≤ 2147483647
       room-on =
@@ -170,17 +169,15 @@ module _ (p : Pattern) (sound : soundOf p ≡ true) (ds : List ℕ) (vs : List �
 
 -- ---- from piece to piece
 
-module _ (p : Pattern) (ds : List ℕ) (vs : List ℤ) (i j : ℕ) (s r : Search) (t t′ u u′ : List ℤ) (k : Fit p ds vs i s t u) where
-  pub fit-on : SearchedTo p (bookOf (p .channels) ds vs) (total (take j ds)) r → t′ ≡ written p (tableTo p (bookOf (p .channels) ds vs) (total (take j ds))) t → u′ ≡ marks p u
-      → Fit p ds vs j r t′ u′
-  fit-on searched first second =
+module _ (p : Pattern) (ds : List ℕ) (vs : List ℤ) (i j : ℕ) (s r : Search) (t t′ : List ℤ) (k : Fit p ds vs i s t) where
+  pub fit-on : SearchedTo p (bookOf (p .channels) ds vs) (total (take j ds)) r → t′ ≡ written p (tableTo p (bookOf (p .channels) ds vs) (total (take j ds))) t
+      → Fit p ds vs j r t′
+  fit-on searched first =
       let U = tableTo p (bookOf (p .channels) ds vs) (total (take j ds)) in
       record {
         sound = k .sound;
         fits = k .fits;
         searched = searched;
         firstLong = let e = ap length first ∙ written-length p (k .sound) U t (k .firstLong) in let l = k .firstLong in omega arith;
-        secondLong = let e = ap length second ∙ marks-length p (k .sound) u (k .secondLong) in let l = k .secondLong in omega arith;
         first = first ∙ sym (written-again p U U t) ∙ ap (written p U) (sym first);
-        second = second ∙ sym (marks-again p u) ∙ ap (marks p) (sym second);
       }

@@ -15,6 +15,8 @@ use Rattle.pattern.specs.Sound.{soundOf}
 use Rattle.pattern.specs.Cells.{cellsNeeded}
 use Rattle.record.specs.Record.{Book, total, recordSound, bookOf}
 use Rattle.book.specs.View.{before}
+use Rattle.cells.specs.Layout.{layoutOf}
+use Rattle.flags.specs.Flags.{Flagged}
 use Rattle.monitor.specs.declared.State.{State}
 use Rattle.monitor.specs.Cells.{written}
 use Rattle.monitor.specs.Tick.{openTable}
@@ -47,7 +49,7 @@ module _ (p : Pattern) (ds : List ℕ) (vs : List ℤ) where
     opens = causes (length t) (length u) none-given .1
 
     -- after the opening nothing was fed
-    pub fit : (q : State) (s : Search) → s .state ≡ openState p t u q → chosenIn (s .choice) ≡ none → Fit p ds vs 0 s (openFirst p t u) (openSecond p t u)
+    pub fit : (q : State) (s : Search) → s .state ≡ openState p t u q → chosenIn (s .choice) ≡ none → Fit p ds vs 0 s (openFirst p t u)
     unfolding total chosenTo before
     fit q s state choice =
         let k = open-parts p (length t) (length u) opens in
@@ -58,15 +60,27 @@ module _ (p : Pattern) (ds : List ℕ) (vs : List ℤ) where
           fits = causes (length t) (length u) none-given .0;
           searched = (state ∙ rw opens (ap (λ (l : List ℤ). record { ticks = 0; last = l }) (h .last)), choice);
           firstLong = h .firstLong;
-          secondLong = h .secondLong;
           first = sym (written-again p (openTable p) (openTable p) t);
-          second = sym (marks-again p u);
         })
+
+    -- the flags of an opened table are right for the first
+    pub flagged : (f : List ℕ) → ((x : List ℤ) → cellsNeeded p ≤ length x → Flagged (layoutOf p (p .high)) (written p (openTable p) x) f)
+        → Flagged (layoutOf p (p .high)) (openFirst p t u) f
+    flagged f h = rw opens (h t (open-parts p (length t) (length u) opens .1))
+
+    pub is-sound : soundOf p ≡ true
+    is-sound = open-parts p (length t) (length u) opens .0
+
+    -- the second table holds marks, and is as long as it was
+    pub second-open : (cellsNeeded p ≤ length (openSecond p t u)) × (openSecond p t u ≡ marks p (openSecond p t u))
+    second-open =
+        let h = fresh p t u (open-parts p (length t) (length u) opens) in
+        rw opens (h .secondLong, sym (marks-again p u))
 
     -- what is left
     pub first-left : (t′ : List ℤ) → t′ ≡ written p (tableTo p B (total ds)) (openFirst p t u) → t′ ≡ bestFirst p ds vs t u
     first-left t′ e =
         e ∙ rw (opens, none-given) (written-again p (tableTo p B (total ds)) (openTable p) t ∙ ap (λ (n : ℕ). written p (tableTo p B n) t) (sym (book-long p (p .channels) ds vs)))
 
-    pub second-left : (u′ : List ℤ) → u′ ≡ marks p (openSecond p t u) → u′ ≡ bestSecond p ds vs t u
-    second-left u′ e = e ∙ rw (opens, none-given) (marks-again p u)
+    pub second-left : openSecond p t u ≡ bestSecond p ds vs t u
+    second-left = rw (opens, none-given)

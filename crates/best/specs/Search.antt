@@ -18,7 +18,6 @@ use Rattle.book.specs.View.{before, viewOf}
 use Rattle.monitor.specs.declared.State.{State}
 use Rattle.monitor.specs.Cells.{written}
 use Rattle.monitor.specs.Tick.{openTable, ticksLater}
-use Rattle.monitor.specs.Open.{marks}
 use Rattle.monitor.specs.Feed.{Call}
 use Rattle.best.specs.declared.Choice.{Choice}
 use Rattle.best.specs.declared.Search.{Search}
@@ -57,12 +56,10 @@ SearchedTo p b n s = (s .state ≡ stateTo p b n) × (chosenIn (s .choice) ≡ c
 abbrev pub passed : Search → (rest : ℕ) → Search
 passed s rest = record { state = record { ticks = s .state .ticks + rest; last = s .state .last }; choice = s .choice }
 
--- A record whose first `piece` pieces were fed, and tables that hold what is then due.
-pub record Fit (p : Pattern) (ds : List ℕ) (vs : List ℤ) (piece : ℕ) (s : Search) (t u : List ℤ) : Type 0 where
+-- A record whose first `piece` pieces were fed, and a first table that holds what is then due.
+pub record Fit (p : Pattern) (ds : List ℕ) (vs : List ℤ) (piece : ℕ) (s : Search) (t : List ℤ) : Type 0 where
   pub sound : soundOf p ≡ true
   pub fits : recordSound (p .channels) ds vs ≡ true
   pub searched : SearchedTo p (bookOf (p .channels) ds vs) (total (take piece ds)) s
   pub firstLong : cellsNeeded p ≤ length t
-  pub secondLong : cellsNeeded p ≤ length u
   pub first : t ≡ written p (tableTo p (bookOf (p .channels) ds vs) (total (take piece ds))) t
-  pub second : u ≡ marks p u

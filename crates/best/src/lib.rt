@@ -16,9 +16,11 @@ ghost use Prim.Native.Nat.{_+_, _≤_, _<_};
 ghost use mathlib.Core.Option.{none};
 ghost use lib.ListN.{length, take, getD};
 ghost use Rattle.record.specs.Record.{total, bookOf};
+ghost use Rattle.cells.specs.Layout.{layoutOf};
+ghost use Rattle.flags.specs.Flags.{Flagged};
 ghost use Rattle.monitor.specs.Cells.{written};
-ghost use Rattle.monitor.specs.Open.{answerOf, marks};
-ghost use Rattle.monitor.specs.Feed.{feedState, feedFirst, feedSecond, feedScores, feedLengths};
+ghost use Rattle.monitor.specs.Open.{answerOf};
+ghost use Rattle.monitor.specs.Feed.{feedRefusal, feedState, feedFirst, feedScores, feedLengths};
 ghost use Rattle.best.specs.Best.{chosenWith, chosenOf, bestRefusal, answered, bestOf, bestFirst, bestSecond};
 ghost use Rattle.best.specs.Search.{tableTo, chosenIn, chosenPast, chunkOf, SearchedTo, passed, Fit};
 
@@ -86,7 +88,7 @@ pub fn choose_all(
     at
 }
 
-// Up to 64 ticks with the same values.
+// Up to 64 ticks with the same values. Of a second table only the length would count, so the first stands for it.
 fn feed_some(
     p: Pattern,
     ticks: u32,
@@ -95,16 +97,17 @@ fn feed_some(
     first: &mut [i64],
     flags: &mut [u32],
 ) -> Search
-    requires { ⌜ (ticks ≤ 64) × (s .state .ticks + ticks ≤ 2147483647) ⌝ }
+    requires { ⌜ (ticks ≤ 64) × (s .state .ticks + ticks ≤ 2147483647)
+        × (feedRefusal p (s .state) (now first) (now first) (chunkOf ticks (now values)) ≡ none)
+        × (Flagged (layoutOf p (p .high)) (now first) (now flags)) ⌝ }
     ensures { λ r. ⌜ r .state
-        ≡ feedState p (s .state) (now (first .entry)) (now (second .entry)) (chunkOf ticks (now (values .entry))) ⌝ }
+        ≡ feedState p (s .state) (now (first .entry)) (now (first .entry)) (chunkOf ticks (now (values .entry))) ⌝ }
     ensures { λ r. ⌜ chosenIn (r .choice) ≡ chosenPast p (chosenIn (s .choice)) (s .state .ticks)
-        (feedScores p (s .state) (now (first .entry)) (now (second .entry)) (chunkOf ticks (now (values .entry))))
-        (feedLengths p (s .state) (now (first .entry)) (now (second .entry)) (chunkOf ticks (now (values .entry)))) ticks ⌝ }
+        (feedScores p (s .state) (now (first .entry)) (now (first .entry)) (chunkOf ticks (now (values .entry))))
+        (feedLengths p (s .state) (now (first .entry)) (now (first .entry)) (chunkOf ticks (now (values .entry)))) ticks ⌝ }
     ensures { λ _. ⌜ now (first .exit)
-        ≡ feedFirst p (s .state) (now (first .entry)) (now (second .entry)) (chunkOf ticks (now (values .entry))) ⌝ }
-    ensures { λ _. ⌜ now (second .exit)
-        ≡ feedSecond p (s .state) (now (first .entry)) (now (second .entry)) (chunkOf ticks (now (values .entry))) ⌝ }
+        ≡ feedFirst p (s .state) (now (first .entry)) (now (first .entry)) (chunkOf ticks (now (values .entry))) ⌝ }
+    ensures { λ _. ⌜ Flagged (layoutOf p (p .high)) (now (first .exit)) (now (flags .exit)) ⌝ }
 {
     let mut scores: [i64; 64] = [0; 64];
     let mut lengths: [u32; 64] = [0; 64];
@@ -138,14 +141,14 @@ fn feed_part(
     first: &mut [i64],
     flags: &mut [u32],
 ) -> Search
-    requires { ⌜ (Fit p (now durations) (now values) piece s (now first) (now second))
+    requires { ⌜ (Fit p (now durations) (now values) piece s (now first)) × (Flagged (layoutOf p (p .high)) (now first) (now flags))
         × (piece < length (now durations)) × (count ≤ getD (now durations) piece 0) ⌝ }
     ensures { λ r. ⌜ SearchedTo p (bookOf (p .channels) (now (durations .entry)) (now (values .entry)))
         (total (take piece (now (durations .entry))) + count) r ⌝ }
     ensures { λ _. ⌜ now (first .exit)
         ≡ written p (tableTo p (bookOf (p .channels) (now (durations .entry)) (now (values .entry)))
         (total (take piece (now (durations .entry))) + count)) (now (first .entry)) ⌝ }
-    ensures { λ _. ⌜ now (second .exit) ≡ marks p (now (second .entry)) ⌝ }
+    ensures { λ _. ⌜ Flagged (layoutOf p (p .high)) (now (first .exit)) (now (flags .exit)) ⌝ }
 {
     let channels = p.channels as usize;
     let at = piece * channels;
@@ -188,14 +191,14 @@ fn feed_whole(
     first: &mut [i64],
     flags: &mut [u32],
 ) -> Search
-    requires { ⌜ (Fit p (now durations) (now values) piece s (now first) (now second))
+    requires { ⌜ (Fit p (now durations) (now values) piece s (now first)) × (Flagged (layoutOf p (p .high)) (now first) (now flags))
         × (piece < length (now durations)) ⌝ }
     ensures { λ r. ⌜ SearchedTo p (bookOf (p .channels) (now (durations .entry)) (now (values .entry)))
         (total (take (piece + 1) (now (durations .entry)))) r ⌝ }
     ensures { λ _. ⌜ now (first .exit)
         ≡ written p (tableTo p (bookOf (p .channels) (now (durations .entry)) (now (values .entry)))
         (total (take (piece + 1) (now (durations .entry))))) (now (first .entry)) ⌝ }
-    ensures { λ _. ⌜ now (second .exit) ≡ marks p (now (second .entry)) ⌝ }
+    ensures { λ _. ⌜ Flagged (layoutOf p (p .high)) (now (first .exit)) (now (flags .exit)) ⌝ }
 {
     let duration = durations[piece];
     let still = p.high as u32 + 1;
@@ -213,13 +216,13 @@ fn feed_all(
     first: &mut [i64],
     flags: &mut [u32],
 ) -> Search
-    requires { ⌜ Fit p (now durations) (now values) 0 s (now first) (now second) ⌝ }
+    requires { ⌜ (Fit p (now durations) (now values) 0 s (now first)) × (Flagged (layoutOf p (p .high)) (now first) (now flags)) ⌝ }
     ensures { λ r. ⌜ SearchedTo p (bookOf (p .channels) (now (durations .entry)) (now (values .entry)))
         (total (now (durations .entry))) r ⌝ }
     ensures { λ _. ⌜ now (first .exit)
         ≡ written p (tableTo p (bookOf (p .channels) (now (durations .entry)) (now (values .entry)))
         (total (now (durations .entry)))) (now (first .entry)) ⌝ }
-    ensures { λ _. ⌜ now (second .exit) ≡ marks p (now (second .entry)) ⌝ }
+    ensures { λ _. ⌜ Flagged (layoutOf p (p .high)) (now (first .exit)) (now (flags .exit)) ⌝ }
 {
     let mut search = s;
     let mut i: usize = 0;

@@ -33,7 +33,7 @@ use Rattle.monitor.specs.Open.{unlessRefused, tableTooShort, openRefusal, openS
 use Rattle.best.specs.declared.Search.{Search}
 use Rattle.best.specs.Best.{bestRefusal, chosenOf}
 use Rattle.best.specs.Search.{chosenBy, Fit, SearchedTo, tableTo}
-use Rattle.best.proofs.Whole.{fit}
+use Rattle.best.proofs.Whole.{fit, second-open}
 use Rattle.watch_text.specs.Shown.{heading, rowsFrom, bestText, shownFor}
 use Rattle.watch_steps.specs.declared.Watch.{Watch}
 use Rattle.watch_steps.specs.declared.Stage.the-variants.{Refused, Heading}
@@ -116,7 +116,7 @@ module _ (p : Pattern) (sound : soundOf p ≡ true) (first second : List ℤ) (l
       unfolding bestRefusal openRefusal
       none-given = rw (record-sound (p .channels) t rs reads fits) e
 
-      opens : Fit p (durationsOf rs) (valuesOf rs) 0 (W .search) (openFirst p first second) (openSecond p first second)
+      opens : Fit p (durationsOf rs) (valuesOf rs) 0 (W .search) (openFirst p first second)
       unfolding chosenBy
       opens = fit p (durationsOf rs) (valuesOf rs) first second none-given noTicks (W .search) refl refl
 
@@ -143,11 +143,11 @@ module _ (p : Pattern) (sound : soundOf p ≡ true) (first second : List ℤ) (l
                 record { read = []; further = rs; reads = reads; at = sym nothing-read; ticks = let a = zero-ticks in let b = no-total in omega arith; now = inl refl };
             searched = subst (λ (w : Book). SearchedTo p w (W .search .state .ticks) (W .search)) (sym book) (subst (λ (m : ℕ). SearchedTo p (bookOf (p .channels) (durationsOf rs) (valuesOf rs)) m (W .search)) from-zero (opens .searched));
             firstLong = opens .firstLong;
-            secondLong = opens .secondLong;
+            secondLong = second-open p (durationsOf rs) (valuesOf rs) first second none-given .0;
             firstHolds =
                 subst (λ (w : Book). openFirst p first second ≡ written p (tableTo p w (W .search .state .ticks)) (openFirst p first second)) (sym book)
                 (subst (λ (m : ℕ). openFirst p first second ≡ written p (tableTo p (bookOf (p .channels) (durationsOf rs) (valuesOf rs)) m) (openFirst p first second)) from-zero (opens .first));
-            secondHolds = opens .second;
+            secondHolds = second-open p (durationsOf rs) (valuesOf rs) first second none-given .1;
           }
 
     pub opened-standing : Standing t W (openFirst p first second) (openSecond p first second)

@@ -1,18 +1,17 @@
 -- One feed, and its reports.
-use mathlib.Core.Path.{_≡_, refl, sym, ap, _∙_}
+use mathlib.Core.Path.{_∙_}
 use borrow.Author.Needs.{needs}
-use Rattle.monitor.specs.declared.After.{After}
 use Rattle.best.proofs.feed_some.Statement.{statement}
 use Rattle.best.proofs.feed_some.Tie as tie
 
-slice-aggregate-feed : tie.Need-slice-aggregate-feed
-slice-aggregate-feed c = search needs
+slice-aggregate-feed-piece : tie.Need-slice-aggregate-feed-piece
+slice-aggregate-feed-piece c = search needs
 
-slice-aggregate-feed-2 : tie.Need-slice-aggregate-feed-2
-slice-aggregate-feed-2 c = search needs
+slice-aggregate-feed-piece-2 : tie.Need-slice-aggregate-feed-piece-2
+slice-aggregate-feed-piece-2 c = search needs
 
-feed-requires : tie.Need-feed-requires
-feed-requires c κs = search needs
+feed-piece-requires : tie.Need-feed-piece-requires
+feed-piece-requires c κs = search needs
 
 slice-aggregate-choose-all : tie.Need-slice-aggregate-choose-all
 slice-aggregate-choose-all c = search needs
@@ -31,16 +30,17 @@ same-length-2 c = search needs
 
 returns : tie.Need-returns
 returns c =
-    let o = c .before .before .before .before .before .before .before .before .feed .ensures in
-    (ap (λ (a : After). a .state) (o .0), (c .before .choose-all .ensures ∙ rw (o .1 .1 .1 .0, o .1 .1 .1 .1), (o .1 .0, o .1 .1 .0)))
+    let none-given = c .before .before .before .before .before .before .before .before .before .before .before .before .before .before .before .before .pre .2 in
+    let o = c .before .before .before .before .before .before .before .before .feed-piece .ensures in
+    (rw none-given (o .0), (c .choose-all .ensures ∙ rw (o .1 .1 .0, o .1 .1 .1 .0, none-given), (rw none-given (o .1 .0), o .1 .1 .1 .1)))
 
 pub feed-some-spec : {M : Type 1} → statement M
 feed-some-spec =
     tie.close
     (tie.spec
-    slice-aggregate-feed
-    slice-aggregate-feed-2
-    feed-requires
+    slice-aggregate-feed-piece
+    slice-aggregate-feed-piece-2
+    feed-piece-requires
     slice-aggregate-choose-all
     slice-aggregate-choose-all-2
     choose-all-requires

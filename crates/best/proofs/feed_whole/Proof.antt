@@ -35,12 +35,12 @@ sub-pass-rest c = search needs
 
 pass-rest-requires : tie.Need-pass-rest-requires
 pass-rest-requires c κs =
-    let st = c .before .before .before .before .before .before .before .before .before in
+    let st = c .before .before .before .before .before .before .before .before .before .before .before in
     let a = st .args in
-    let m = c .before .before .before .before .before .least .result in
-    let is : m ≡ min (getD (a .durations .now) (a .piece) 0) _ = c .before .before .before .before .before .least .ensures in
-    room-passes (a .p) (st .pre .0 .sound) (a .durations .now) (a .values .now) (a .piece) (st .pre .1) (st .pre .0 .fits) m (omega arith)
-    (c .before .before .feed-part .result) (c .before .before .feed-part .ensures .0)
+    let m = c .before .before .before .before .before .before .least .result in
+    let is : m ≡ min (getD (a .durations .now) (a .piece) 0) _ = c .before .before .before .before .before .before .least .ensures in
+    room-passes (a .p) (st .pre .0 .sound) (a .durations .now) (a .values .now) (a .piece) (st .pre .2) (st .pre .0 .fits) m (omega arith)
+    (c .before .before .before .feed-part .result) (c .before .before .before .feed-part .ensures .0)
 
 same-length : tie.Need-same-length
 same-length c = search needs
@@ -50,20 +50,20 @@ same-length-2 c = search needs
 
 returns : tie.Need-returns
 returns c =
-    let st = c .before .before .before .before .before .before .before .before .before .before in
+    let st = c .before .before .before .before .before .before .before .before .before .before .before .before in
     let a = st .args in
     let d = getD (a .durations .now) (a .piece) 0 in
-    let m = c .before .before .before .before .before .before .least .result in
-    let is : m ≡ min d (a .p .high + 1) = c .before .before .before .before .before .before .least .ensures in
-    let o = c .before .before .before .feed-part .ensures in
+    let m = c .before .before .before .before .before .before .before .least .result in
+    let is : m ≡ min d (a .p .high + 1) = c .before .before .before .before .before .before .before .least .ensures in
+    let o = c .before .before .before .before .feed-part .ensures in
     let B = bookOf (a .p .channels) (a .durations .now) (a .values .now) in
-    let e : total (take (a .piece) (a .durations .now)) + d ≡ total (take (a .piece + 1) (a .durations .now)) = sym (total-more (a .durations .now) (a .piece) (st .pre .1)) in
-    let s = passed (c .before .before .before .feed-part .result) (d - m) in
-    let on = passes (a .p) (st .pre .0 .sound) (a .durations .now) (a .values .now) (a .piece) (st .pre .1) m is (c .before .before .before .feed-part .result) (o .0) in (
+    let e : total (take (a .piece) (a .durations .now)) + d ≡ total (take (a .piece + 1) (a .durations .now)) = sym (total-more (a .durations .now) (a .piece) (st .pre .2)) in
+    let s = passed (c .before .before .before .before .feed-part .result) (d - m) in
+    let on = passes (a .p) (st .pre .0 .sound) (a .durations .now) (a .values .now) (a .piece) (st .pre .2) m is (c .before .before .before .before .feed-part .result) (o .0) in (
       subst (SearchedTo (a .p) B (total (take (a .piece + 1) (a .durations .now)))) (sym (c .pass-rest .ensures)) (subst (λ (n : ℕ). SearchedTo (a .p) B n s) e on),
       (
         o .1 .0
-            ∙ table-passes (a .p) (st .pre .0 .sound) (a .durations .now) (a .values .now) (a .piece) (st .pre .1) m is (a .first .now)
+            ∙ table-passes (a .p) (st .pre .0 .sound) (a .durations .now) (a .values .now) (a .piece) (st .pre .2) m is (a .first .now)
             ∙ ap (λ (n : ℕ). written (a .p) (tableTo (a .p) B n) (a .first .now)) e,
         o .1 .1,
       ),
