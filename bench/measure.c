@@ -14,8 +14,8 @@
  *     measure differs N          spoils an answer of the plain monitor, 1 to 5; the comparison must find it
  *     measure refusals           feeds with one cause or two that all monitors must refuse alike
  *
- * Times are processor time, the least of several rounds, in which the monitors take turns. A difference between two
- * monitors ends the program with status 1. */
+ * Times are processor time. A call's is the middle one of several rounds, a record's the sum of the least of each of its
+ * parts; the monitors take turns. A difference between two monitors ends the program with status 1. */
 #define _GNU_SOURCE
 #include <inttypes.h>
 #include <pthread.h>
@@ -193,9 +193,11 @@ static double occupied(const struct pattern *p, const int64_t *table)
 #define ROUNDS 1000 /* at most */
 #define PART 200    /* entries of a record that a monitor is fed at a time */
 
-/* The least time of each monitor, and what the library's rounds were like. */
+/* The times of each monitor, and what the library's rounds were like. */
 struct timing {
-    double least[MONITORS];
+    double took[MONITORS][ROUNDS];
+    int counted[MONITORS];
+    double summed[MONITORS];  /* of a record: its parts together */
     double quickest, slowest; /* of the library's rounds */
     double spent;             /* by all rounds of all monitors */
     int rounds;
@@ -203,15 +205,37 @@ struct timing {
 
 static struct timing new_timing(void)
 {
-    struct timing t = {{1e9, 1e9, 1e9}, 1e9, 0, 0, 0};
+    struct timing t = {.quickest = 1e9};
     return t;
+}
+
+static int in_order(const void *a, const void *b)
+{
+    double x = *(const double *)a, y = *(const double *)b;
+    return (x > y) - (x < y);
+}
+
+/* The middle one of several times. The least would do on a machine whose clock never errs: one reading of a thousand has been
+ * seen to be a third of all others. */
+static double middle(const double *times, int count)
+{
+    static double sorted[ROUNDS];
+
+    memcpy(sorted, times, (size_t)count * sizeof *times);
+    qsort(sorted, (size_t)count, sizeof *sorted, in_order);
+    return sorted[count / 2];
+}
+
+static double seconds_of(const struct timing *t, int monitor)
+{
+    return t->summed[monitor] > 0 ? t->summed[monitor] : middle(t->took[monitor], t->counted[monitor]);
 }
 
 static void count_time(struct timing *t, int monitor, double took)
 {
     t->spent += took;
-    if (took < t->least[monitor])
-        t->least[monitor] = took;
+    if (t->counted[monitor] < ROUNDS)
+        t->took[monitor][t->counted[monitor]++] = took;
     if (monitor == LIBRARY) {
         t->rounds++;
         if (took < t->quickest)
@@ -240,7 +264,7 @@ static void print_times(const char *kind, const char *name, size_t varied, size_
         ends += l->lengths[i] != 0;
     printf("%s\t%s\t%zu\t%zu\t%zu\t%zu\t%.1f\t%zu", kind, name, varied, entries, ticks, p->cells, full, ends);
     for (int m = 0; m < MONITORS; m++)
-        printf("\t%.9f", t->least[m]);
+        printf("\t%.9f", seconds_of(t, m));
     printf("\t%d\t%.3f\n", t->rounds, t->slowest / t->quickest);
     fflush(stdout);
 }
@@ -273,9 +297,9 @@ static void free_parts(struct parts *parts)
 static void sum_parts(struct timing *t, const struct parts *parts, size_t entries)
 {
     for (int m = 0; m < MONITORS; m++) {
-        t->least[m] = 0;
+        t->summed[m] = 0;
         for (size_t i = 0; i * PART < entries; i++)
-            t->least[m] += parts->least[m][i];
+            t->summed[m] += parts->least[m][i];
     }
 }
 
@@ -529,16 +553,18 @@ __attribute__((noinline, optimize("O3"))) static void write_reports(struct lent 
 
 /* What the library takes for a piece of `high` + 2 ticks, for the longest one, and what it takes to write the reports that
  * repeat in the longest, those after `high` + 1 ticks, to the same places: stores that begin at an odd place take longer. In
- * turn, as many rounds as fit 0.3 seconds and seven at least. A line: case, window, the three least times. Nothing is compared
+ * turn, as many rounds as fit 0.3 seconds and seven at least. A line: case, window, the three middle times. Nothing is compared
  * here: time_call times the same two calls and compares them. */
 static void time_steady(const char *name, unsigned high, const struct pattern *p, const struct lent *from,
                         const int32_t *values)
 {
     const uint32_t durations[] = {high + 2, PIECE_TICKS_MAX};
     struct lent l = new_lent(p, PIECE_TICKS_MAX);
-    double least[3] = {1e9, 1e9, 1e9}, spent = 0;
+    static double times[3][ROUNDS];
+    double spent = 0;
+    int round;
 
-    for (int round = 0; round < 7 || (round < ROUNDS && spent < 0.3); round++)
+    for (round = 0; round < 7 || (round < ROUNDS && spent < 0.3); round++)
         for (int i = 0; i < 3; i++) {
             uint32_t answer = CALL_DONE;
             double start, took;
@@ -555,10 +581,10 @@ static void time_steady(const char *name, unsigned high, const struct pattern *p
             if (answer != CALL_DONE)
                 fail("a piece is refused");
             spent += took;
-            if (took < least[i])
-                least[i] = took;
+            times[i][round] = took;
         }
-    printf("steady\t%s\t%u\t%.9f\t%.9f\t%.9f\n", name, high, least[0], least[1], least[2]);
+    printf("steady\t%s\t%u\t%.9f\t%.9f\t%.9f\n", name, high, middle(times[0], round), middle(times[1], round),
+           middle(times[2], round));
     free_lent(&l);
 }
 
@@ -721,7 +747,7 @@ static void time_longest(const char *name, size_t high, const char *text, const 
     }
     check_best(name, GCC, p, &plain, &l, plain_best, best);
     printf("longest\t%s\t%zu\t%zu\t%zu\t%zu\t%.9f\t%d\t%.3f\n", name, high, r->entries, r->ticks, p->cells,
-           t.least[LIBRARY], t.rounds, t.slowest / t.quickest);
+           seconds_of(&t, LIBRARY), t.rounds, t.slowest / t.quickest);
     fflush(stdout);
     free(short_one.durations);
     free_lent(&l);
@@ -1041,7 +1067,7 @@ static void second_case(const char *scorer, const char *directory, const char *n
         exit(1);
     }
     printf("second\t%s\t%zu\t%zu\t%zu\t%zu\t%.9f\t%d\t%.3f\t%.9f\t%ld\n", name, high, r->entries, r->ticks, p->cells,
-           t.least[LIBRARY], t.rounds, t.slowest / t.quickest, of_scorer, kib);
+           seconds_of(&t, LIBRARY), t.rounds, t.slowest / t.quickest, of_scorer, kib);
     fflush(stdout);
     fclose(output);
     free(expected);
