@@ -1,4 +1,4 @@
--- What a loop over the cells of a table has found, one cell or one part of the table more.
+-- What a look at the cells of a table finds: at one cell alone, and in a loop with one cell or one part of the table more.
 use Prim.Native.Nat.{ℕ, _+_, _*_, _<_}
 use native.Mathlib.Omega.{arith}
 use mathlib.Core.Path.{_≡_, refl}
@@ -24,6 +24,10 @@ module _ (f : ℤ → Bool) (t : List ℤ) (at i : ℕ) where
   part-more size =
       rw (row-next i size, take-add (i * size) size (drop at t), drop-drop (i * size) at t)
       (all-append f (take (i * size) (drop at t)) (take size (drop (at + i * size) t)))
+
+-- one cell alone
+pub one-cell : (f : ℤ → Bool) (t : List ℤ) (at : ℕ) → at < length t → all f (take 1 (drop at t)) ≡ f (getD t at (pos 0))
+one-cell f t at h = let z : at + 0 ≡ at = omega arith in rw z at (cell-more f t at 0 (omega arith))
 
 pub not-and : (a b : Bool) → not (a && b) ≡ not a || not b
 not-and true b = refl

@@ -79,12 +79,19 @@ pub struct Look {
     pub held: bool,
 }
 
-// The cells of one block.
+// The cells of one block. A block of one cell, as in a pattern without clocks, is looked at without a loop.
 fn look_block(table: &[i64], at: usize, size: usize) -> Look
     requires { ⌜ at + size ≤ length (now table) ⌝ }
     ensures { λ r. ⌜ r .fine ≡ all cellFine (take size (drop at (now (table .entry)))) ⌝ }
     ensures { λ r. ⌜ r .held ≡ not (all isMark (take size (drop at (now (table .entry))))) ⌝ }
 {
+    if size == 1 {
+        let v = table[at];
+        return Look {
+            fine: cell_fine(v),
+            held: v != MARK,
+        };
+    }
     let mut fine = true;
     let mut held = false;
     let mut i: usize = 0;
