@@ -15,10 +15,9 @@ use Rattle.pattern.specs.Sound.{soundOf}
 use Rattle.pattern.specs.Cells.{cellsNeeded}
 use Rattle.record.specs.Record.{Book, total, recordSound, bookOf}
 use Rattle.book.specs.View.{before}
-use Rattle.cells.specs.Layout.{layoutOf}
 use Rattle.flags.specs.Flags.{Flagged}
 use Rattle.monitor.specs.declared.State.{State}
-use Rattle.monitor.specs.Cells.{written}
+use Rattle.monitor.specs.Cells.{layout, written}
 use Rattle.monitor.specs.Tick.{openTable}
 use Rattle.monitor.specs.State.{noTicks}
 use Rattle.monitor.specs.Open.{firstCause, tableTooShort, marks, openRefusal, openState, openFirst, openSecond}
@@ -64,8 +63,8 @@ module _ (p : Pattern) (ds : List ℕ) (vs : List ℤ) where
         })
 
     -- the flags of an opened table are right for the first
-    pub flagged : (f : List ℕ) → ((x : List ℤ) → cellsNeeded p ≤ length x → Flagged (layoutOf p (p .high)) (written p (openTable p) x) f)
-        → Flagged (layoutOf p (p .high)) (openFirst p t u) f
+    pub flagged : (f : List ℕ) → ((x : List ℤ) → cellsNeeded p ≤ length x → Flagged (layout p) (written p (openTable p) x) f)
+        → Flagged (layout p) (openFirst p t u) f
     flagged f h = rw opens (h t (open-parts p (length t) (length u) opens .1))
 
     pub is-sound : soundOf p ≡ true

@@ -25,9 +25,8 @@ ghost use Rattle.pattern.specs.Sound.{soundOf};
 ghost use Rattle.pattern.specs.Cells.{cellsNeeded};
 ghost use Rattle.pattern.specs.Slots.{all};
 ghost use Rattle.record.specs.Record.{valueInRange};
-ghost use Rattle.cells.specs.Layout.{layoutOf};
 ghost use Rattle.flags.specs.Flags.{Flagged};
-ghost use Rattle.monitor.specs.Cells.{written};
+ghost use Rattle.monitor.specs.Cells.{layout, written};
 ghost use Rattle.monitor.specs.Tick.{openTable};
 ghost use Rattle.monitor.specs.State.{noTicks, pieceLater};
 ghost use Rattle.monitor.specs.Open.{marks, openFirst, openSecond};
@@ -107,7 +106,7 @@ pub fn open(s: State, p: Pattern, first: &mut [i64], second: &mut [i64]) -> Afte
 pub fn flag_opened(p: Pattern, flags: &mut [u32])
     requires { ⌜ (soundOf p ≡ true) × (4096 ≤ length (now flags)) ⌝ }
     ensures { λ _. ⌜ ((t : List ℤ) → cellsNeeded p ≤ length t
-        → Flagged (layoutOf p (p .high)) (written p (openTable p) t) (now (flags .exit))) ⌝ }
+        → Flagged (layout p) (written p (openTable p) t) (now (flags .exit))) ⌝ }
 {
     let starts = kind_flags(false, p);
     raise_starts(flags, starts, p.placecount as usize);
@@ -142,14 +141,14 @@ fn tell_piece(
 )
     requires { ⌜ (soundOf p ≡ true) × (all valueInRange (now values) ≡ true)
         × (cellsNeeded p ≤ length (now first)) × (all cellFine (take (cellsNeeded p) (now first)) ≡ true)
-        × (duration ≤ length (now scores)) × (duration ≤ length (now lengths)) × (Flagged (layoutOf p (p .high)) (now first) (now flags)) ⌝ }
+        × (duration ≤ length (now scores)) × (duration ≤ length (now lengths)) × (Flagged (layout p) (now first) (now flags)) ⌝ }
     ensures { λ _. ⌜ now (first .exit)
         ≡ written p (tableIn p new (now (values .entry)) (now (first .entry)) duration) (now (first .entry)) ⌝ }
     ensures { λ _. ⌜ now (scores .exit)
         ≡ scoresIn p new (now (values .entry)) (now (first .entry)) duration (now (scores .entry)) ⌝ }
     ensures { λ _. ⌜ now (lengths .exit)
         ≡ lengthsIn p new (now (values .entry)) (now (first .entry)) duration (now (lengths .entry)) ⌝ }
-    ensures { λ _. ⌜ Flagged (layoutOf p (p .high)) (now (first .exit)) (now (flags .exit)) ⌝ }
+    ensures { λ _. ⌜ Flagged (layout p) (now (first .exit)) (now (flags .exit)) ⌝ }
 {
     let l = layout_of(p, p.high);
     let w = p.weighing;
@@ -194,7 +193,7 @@ pub fn feed_piece(
 ) -> State
     requires { ⌜ (feedCause p s (now first) (length (now first)) duration (now values)
         (length (now scores)) (length (now lengths)) ≡ none)
-        × (Flagged (layoutOf p (p .high)) (now first) (now flags)) ⌝ }
+        × (Flagged (layout p) (now first) (now flags)) ⌝ }
     ensures { λ r. ⌜ r ≡ pieceLater p s duration (now (values .entry)) ⌝ }
     ensures { λ _. ⌜ now (first .exit)
         ≡ written p (tableAfter p s (now (first .entry)) (now (values .entry)) duration) (now (first .entry)) ⌝ }
@@ -202,7 +201,7 @@ pub fn feed_piece(
         (now (first .entry)) duration (now (scores .entry)) ⌝ }
     ensures { λ _. ⌜ now (lengths .exit) ≡ lengthsIn p (isNew p s (now (values .entry))) (now (values .entry))
         (now (first .entry)) duration (now (lengths .entry)) ⌝ }
-    ensures { λ _. ⌜ Flagged (layoutOf p (p .high)) (now (first .exit)) (now (flags .exit)) ⌝ }
+    ensures { λ _. ⌜ Flagged (layout p) (now (first .exit)) (now (flags .exit)) ⌝ }
 {
     let new = is_new(p, s, values);
     tell_piece(p, new, duration, values, first, flags, scores, lengths);

@@ -21,8 +21,9 @@ ghost use lib.ListN.{length, take, drop};
 ghost use Rattle.pattern.specs.Slots.{all};
 ghost use Rattle.pattern.specs.Sound.{isNull};
 ghost use Rattle.record.specs.Record.{valueInRange};
-ghost use Rattle.cells.specs.Layout.{layoutOf, cellsIn, Laid};
+ghost use Rattle.cells.specs.Layout.{cellsIn, Laid};
 ghost use Rattle.flags.specs.Flags.{RowFlagged, Flagged};
+ghost use Rattle.monitor.specs.Cells.{layout};
 ghost use Rattle.monitor.specs.State.{stateSound};
 ghost use Rattle.monitor.specs.Open.{answerOf, openRefusal};
 ghost use Rattle.monitor.specs.Feed.{cellFine, pieceBroken, feedCause};
@@ -194,7 +195,7 @@ pub fn feed_refusal(
     ensures { λ r. ⌜ r ≡ answerOf
         (feedCause p s (now (first .entry)) second duration (now (values .entry)) scores lengths) ⌝ }
     ensures { λ _. ⌜ (feedCause p s (now (first .entry)) second duration (now (values .entry)) scores lengths ≡ none
-        → Flagged (layoutOf p (p .high)) (now (first .entry)) (now (flags .exit))) ⌝ }
+        → Flagged (layout p) (now (first .entry)) (now (flags .exit))) ⌝ }
 {
     match cells(p) {
         Counted::Cells(needed) => {

@@ -85,7 +85,8 @@ fn turn(
     requires { ⌜ (Laid l) × (Within (l .radices) clocks) × (to + l .block ≤ length (now table))
         × (can ≡ guardsHold clocks e) × (cell ≡ codeOf (l .radices) (afterResets e clocks))
         × (row < length (now flags)) × (flag < 32) ⌝ }
-    ensures { λ _. ⌜ now (flags .exit) ≡ cond (guardsHold clocks e) (raised (now (flags .entry)) row flag) (now (flags .entry)) ⌝ }
+    ensures { λ _. ⌜ now (flags .exit)
+        ≡ cond (guardsHold clocks e) (raised (now (flags .entry)) row flag) (now (flags .entry)) ⌝ }
     ensures { λ _. ⌜ now (table .exit) ≡ moved l w e to clocks worth (now (table .entry)) ⌝ }
 {
     if can {

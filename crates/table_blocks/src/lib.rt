@@ -165,8 +165,8 @@ pub fn pass(
     held: bool,
     r: Report,
 ) -> Report
-    requires { ⌜ (Passing (now table) l gain n p at) × (Edges l edges count (now links) (now steps)) × (Flagged l (now table) (now flags))
-        × (held ≡ false → Empty (now table) at (l .block)) ⌝ }
+    requires { ⌜ (Passing (now table) l gain n p at) × (Edges l edges count (now links) (now steps))
+        × (Flagged l (now table) (now flags)) × (held ≡ false → Empty (now table) at (l .block)) ⌝ }
     ensures { λ q. ⌜ q ≡ toldPass l w edges count (now (tells .entry)) gain n p at (now (table .entry)) r ⌝ }
     ensures { λ _. ⌜ now (table .exit) ≡ passOf l w edges count gain n p at (now (table .entry)) ⌝ }
     ensures { λ _. ⌜ Grown l (now (table .exit)) (now (flags .entry)) (now (flags .exit)) ⌝ }

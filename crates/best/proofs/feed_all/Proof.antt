@@ -6,9 +6,8 @@ use borrow.Author.Needs.{needs}
 use lib.ListN.{length, take}
 use lib.Seq.{take-all}
 use Rattle.record.specs.Record.{total, bookOf}
-use Rattle.cells.specs.Layout.{layoutOf}
 use Rattle.flags.specs.Flags.{Flagged}
-use Rattle.monitor.specs.Cells.{written}
+use Rattle.monitor.specs.Cells.{layout, written}
 use Rattle.monitor.proofs.Written.{written-length, written-again}
 use Rattle.best.specs.Search.{tableTo, SearchedTo, Fit}
 use Rattle.best.proofs.Turn.{fit-on}
@@ -18,7 +17,7 @@ use Rattle.best.proofs.feed_all.Tie as tie
 abbrev Inv-loop : tie.InvT-loop
 Inv-loop p durations values first₀ flags₀ search₀ i₀ first flags search i =
     (i ≤ length durations) × Fit p durations values i search first
-    × (first ≡ written p (tableTo p (bookOf (p .channels) durations values) (total (take i durations))) first₀) × (length flags ≡ length flags₀) × Flagged (layoutOf p (p .high)) first flags
+    × (first ≡ written p (tableTo p (bookOf (p .channels) durations values) (total (take i durations))) first₀) × (length flags ≡ length flags₀) × Flagged (layout p) first flags
 
 abbrev μ-loop : tie.MeasureT-loop
 μ-loop p durations values first₀ flags₀ search₀ i₀ first flags search i = length durations - i

@@ -6,9 +6,8 @@ use borrow.Author.Needs.{needs}
 use lib.ListN.{length, take}
 use Rattle.record.specs.Record.{total, bookOf}
 use Rattle.record.proofs.RecordLaws.{parts, sample-within, part-sample}
-use Rattle.cells.specs.Layout.{layoutOf}
 use Rattle.flags.specs.Flags.{Flagged}
-use Rattle.monitor.specs.Cells.{written}
+use Rattle.monitor.specs.Cells.{layout, written}
 use Rattle.monitor.proofs.Written.{written-length}
 use Rattle.best.specs.Search.{tableTo, SearchedTo}
 use Rattle.best.proofs.Turn.{onward, accepted-on, room-on}
@@ -20,7 +19,7 @@ Inv-loop p durations values piece count first₀ flags₀ channels at past left�
     (left ≤ count)
     × SearchedTo p (bookOf (p .channels) durations values) (total (take piece durations) + (count - left)) search
     × (first ≡ written p (tableTo p (bookOf (p .channels) durations values) (total (take piece durations) + (count - left))) first₀)
-    × (length flags ≡ length flags₀) × Flagged (layoutOf p (p .high)) first flags
+    × (length flags ≡ length flags₀) × Flagged (layout p) first flags
 
 abbrev μ-loop : tie.MeasureT-loop
 μ-loop p durations values piece count first₀ flags₀ channels at past left₀ search₀ first flags left search = left
