@@ -108,8 +108,8 @@ uint64_t pattern_cells(const uint8_t *text, size_t length);
  * value of each channel, zeros before the first piece and in unused channels. What it held before does not matter.
  * `first` and `second` are the monitor's tables, at least pattern_cells numbers each. What they held does not matter.
  * Further entries and cells are left as they are. State and first table belong together, and to this pattern: keep them as
- * they are between the calls. The second table is all CELL_MARK after each call that is done, and may hold anything before
- * the next: it only has to be there.
+ * they are between the calls. The cells needed of the second table are all CELL_MARK after each call that is done, and may hold
+ * anything before the next: they only have to be there.
  *
  * Done: 0. Refused, in this order: 1 to 5 for the text; TABLE_TOO_SHORT; STATE_BROKEN, for a state of fewer than 9 entries. */
 uint32_t monitor_open(const uint8_t *text, size_t length, int64_t *state, size_t state_length, int64_t *first,

@@ -33,7 +33,7 @@ ghost use Prim.Native.Nat.{_≤_, _<_};
 ghost use Rattle.io.specs.Counts.{Counts};
 
 // Where the monitor stands, the best so far, the seed, and whether all went as it must. Counts: calls that end inside a
-// piece (0), of over 64 ticks (1), of over high + 2 ticks, whose later reports repeat (2); then the refused feeds, each at 3
+// piece (0), of over 64 ticks (1), of over high + 1 ticks, whose later reports repeat (2); then the refused feeds, each at 3
 // and its kind (refusals).
 struct Told {
     state: State,
@@ -132,7 +132,7 @@ fn counted_if(t: Told, kind: usize, counts: bool) -> Told {
 fn counted(p: Pattern, t: Told, ticks: u32, left: u32, kind: u32) -> Told {
     let cut = counted_if(t, 0, ticks < left);
     let long = counted_if(cut, 1, 64 < ticks);
-    let still = counted_if(long, 2, p.high as u32 + 2 < ticks);
+    let still = counted_if(long, 2, p.high as u32 + 1 < ticks);
     counted_if(still, kind as usize + 3, kind < 7)
 }
 

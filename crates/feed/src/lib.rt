@@ -127,8 +127,8 @@ fn last_after(last: [i32; 8], values: &[i32]) -> [i32; 8]
     kept
 }
 
-// The ticks of a piece, each with its report. Its later ticks are all alike, so that after high + 1 of them the table stands
-// still: the rest of the reports is the last one again.
+// The ticks of a piece, each with its report. All its ticks but the first are alike, so that after high + 1 ticks the table
+// stands still: the rest of the reports is the last one again.
 fn tell_piece(
     p: Pattern,
     new: bool,

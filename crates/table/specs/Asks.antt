@@ -46,7 +46,7 @@ pub record Ticking (t : List ℤ) (l : Layout) (v : View) (es : List Edge) (coun
   pub known : Known l v es count
   pub whole : Whole t l
 
--- What opening and a report ask.
+-- What an opening and the empty runs ask.
 pub record Filed (t : List ℤ) (l : Layout) : Type 0 where
   pub laid : Laid l
   pub inside : cellsIn l ≤ length t

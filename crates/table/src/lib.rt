@@ -1,6 +1,7 @@
 // The moves of one occupied cell of a monitor's table in a tick (document 01, 'Monitor tables'): its clocks and its worth are
 // moved by a tick; it stays, and goes along the edges out of its place whose guards hold. What is offered to an end place
-// just entered is noted for the report as it is offered. A block into which a worth is moved has its flag raised.
+// just entered is noted for the report as it is offered. A block that a worth enters along an edge has its flag raised; that
+// of the block that it stays in was raised before, once for all worths of a block (`table_blocks`, `pass`).
 pub mod report;
 
 use self::report::Report;

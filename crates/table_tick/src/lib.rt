@@ -96,7 +96,7 @@ fn place(
     best
 }
 
-// Row n into row n + 1, place by place: each cell of row n is looked at once.
+// Row n into row n + 1, place by place: each cell of those blocks of row n that have a flag is looked at once.
 fn row(
     table: &mut [i64],
     flags: &mut [u32],
