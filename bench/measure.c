@@ -14,8 +14,8 @@
  *     measure differs N          spoils an answer of the plain monitor, 1 to 5; the comparison must find it
  *     measure refusals           feeds with one cause or two that all monitors must refuse alike
  *
- * Times are processor time. A call's is the middle one of several rounds, a record's the sum of the least of each of its
- * parts; the monitors take turns. A difference between two monitors ends the program with status 1. */
+ * Times are processor time, the middle one of several rounds, in which the monitors take turns; a record's is the sum of its
+ * parts'. A difference between two monitors ends the program with status 1. */
 #define _GNU_SOURCE
 #include <inttypes.h>
 #include <pthread.h>
@@ -215,8 +215,8 @@ static int in_order(const void *a, const void *b)
     return (x > y) - (x < y);
 }
 
-/* The middle one of several times. The least would do on a machine whose clock never errs: one reading of a thousand has been
- * seen to be a third of all others. */
+/* The middle one of several times. The least would do if the clock never erred: one reading of a thousand has been seen to be
+ * a third of all others. */
 static double middle(const double *times, int count)
 {
     static double sorted[ROUNDS];
@@ -269,28 +269,25 @@ static void print_times(const char *kind, const char *name, size_t varied, size_
     fflush(stdout);
 }
 
-/* The least time of each part of a record by each monitor, over all rounds. */
+/* The times of each part of a record by each monitor, round by round. */
 struct parts {
     size_t count;
-    double *least[MONITORS];
+    double *took[MONITORS];
 };
 
 static struct parts new_parts(size_t entries)
 {
     struct parts parts = {(entries + PART - 1) / PART, {NULL}};
 
-    for (int m = 0; m < MONITORS; m++) {
-        parts.least[m] = memory(parts.count * sizeof *parts.least[m]);
-        for (size_t i = 0; i < parts.count; i++)
-            parts.least[m][i] = 1e9;
-    }
+    for (int m = 0; m < MONITORS; m++)
+        parts.took[m] = memory(parts.count * ROUNDS * sizeof *parts.took[m]);
     return parts;
 }
 
 static void free_parts(struct parts *parts)
 {
     for (int m = 0; m < MONITORS; m++)
-        free(parts->least[m]);
+        free(parts->took[m]);
 }
 
 /* The time of a record's first `entries` entries: that of their parts, which are whole. */
@@ -299,7 +296,7 @@ static void sum_parts(struct timing *t, const struct parts *parts, size_t entrie
     for (int m = 0; m < MONITORS; m++) {
         t->summed[m] = 0;
         for (size_t i = 0; i * PART < entries; i++)
-            t->summed[m] += parts->least[m][i];
+            t->summed[m] += middle(parts->took[m] + i * ROUNDS, t->counted[m]);
     }
 }
 
@@ -326,8 +323,7 @@ static void record_round(struct timing *t, struct parts *parts, const char *name
             }
             took = now() - start;
             round[m] += took;
-            if (took < parts->least[m][i])
-                parts->least[m][i] = took;
+            parts->took[m][i * ROUNDS + (size_t)t->counted[m]] = took;
         }
         at = next;
     }
@@ -992,14 +988,16 @@ static double wall(void)
 }
 
 /* Runs the scorer on the files in the directory until 0.2 seconds are spent, three times at least unless the first took over a
- * second: the least time, and the most memory in KiB. What it prints is in `output`. */
+ * second: the middle time, and the most memory in KiB. What it prints is in `output`. */
 static double run_scorer(const char *scorer, const char *directory, FILE *output, long *kib)
 {
-    double least = 1e9, spent = 0;
+    static double times[ROUNDS];
+    double spent = 0;
+    int round;
 
     fflush(stdout);
     *kib = 0;
-    for (int round = 0; spent < 0.2 || (round < 3 && spent < 1); round++) {
+    for (round = 0; round < ROUNDS && (spent < 0.2 || (round < 3 && spent < 1)); round++) {
         struct rusage used;
         double start, took;
         int status;
@@ -1019,12 +1017,11 @@ static double run_scorer(const char *scorer, const char *directory, FILE *output
             fail("the second scorer does not end well");
         took = wall() - start;
         spent += took;
-        if (took < least)
-            least = took;
+        times[round] = took;
         if (used.ru_maxrss > *kib)
             *kib = used.ru_maxrss;
     }
-    return least;
+    return middle(times, round);
 }
 
 /* A line: case, window, entries, ticks, cells, seconds of the library, rounds and spread, seconds of the scorer, its KiB. */

@@ -106,9 +106,9 @@ def measures(kinds, steady, stack, memory, symbols):
     def row(words, seen, held):
         return [words, seen, "held" if held else "missed"]
 
-    def at_most(words, lines, limit):
+    def within_limit(words, lines, holds):
         worst = max(lines, key=Timed.ratio)
-        held = sum(t.ratio() <= limit for t in lines)
+        held = sum(holds(t.ratio()) for t in lines)
         return row(words, f"{number(min(t.ratio() for t in lines))} to {number(worst.ratio())} ({worst.place()}); "
                    f"{held} of {len(lines)} lines within it", held == len(lines))
 
@@ -125,9 +125,12 @@ def measures(kinds, steady, stack, memory, symbols):
     added = max(peak - before - lent for _, monitor, _, lent, before, peak in memory if monitor == "library")
     table_least = min(lent for _, monitor, _, lent, _, _ in memory if monitor == "library") // 2
     return table(["measure", "seen", ""],
-                 [at_most("full tables: at most 1.2 times the plain monitor's time", full, 1.2),
-                  at_most("sparse tables, at most a tenth of the cells occupied: below 1", sparse, 1),
-                  no_limit("records and tables of growth with more than a tenth of the cells occupied", between),
+                 [within_limit("full tables: at most 1.2 times the plain monitor's time", full, lambda ratio: ratio <= 1.2),
+                  within_limit("sparse tables, at most a tenth of the cells occupied: below 1", sparse, lambda ratio: ratio < 1),
+                  no_limit("records and tables of growth with more than a tenth and at most four fifths of the cells occupied",
+                           [t for t in between if t.occupied <= 80]),
+                  no_limit("records and tables of growth with more than four fifths of the cells occupied",
+                           [t for t in between if t.occupied > 80]),
                   no_limit("pieces below 65,535 ticks and the best of a record, however many cells are occupied",
                            short + kinds["best"]),
                   row("pieces of 65,535 ticks, windows up to 100: at least 50 times faster",
@@ -246,8 +249,8 @@ def report(kinds, other):
     scored = [(f[0], f[1], int(f[2]), int(f[3]), int(f[4]), float(f[5]), float(f[8]), int(f[9]))
               for f in other["second"] if f is not empty]
     out += ["### The second scorer", "",
-            "Its time is the least of several runs of a process that starts, reads both files and prints (for a record without pieces",
-            f"{number(1e3 * float(empty[8]))} ms, also the least), by the wall clock; the library's that of the calls alone. The rows",
+            "Its time is the middle one of several runs of a process that starts, reads both files and prints (for a record without pieces",
+            f"{number(1e3 * float(empty[8]))} ms, also the middle one), by the wall clock; the library's that of the calls alone. The rows",
             "printed are the same bytes. Its memory is the peak of the process, the library's the two tables.", ""]
     out += table(["pattern", "window", "entries", "ticks", "cells", "library, ms", "second scorer, ms", "library, entries/s",
                   "second scorer", "library, million cells/s", "second scorer", "times faster", "library, KiB", "second scorer, KiB"],
