@@ -137,8 +137,7 @@ fn look_row(table: &[i64], l: Layout, n: usize) -> RowLook
     }
 }
 
-// Of a table only the needed cells count. Each is looked at once, row by row, and the flags of its blocks are found with
-// it.
+// Of a table only the needed cells count. Each is looked at once, row by row, which also finds the flags of its blocks.
 pub fn cells_broken(table: &[i64], l: Layout, flags: &mut [u32]) -> bool
     requires { ⌜ (Laid l) × (cellsIn l ≤ length (now table)) × (l .high < length (now flags)) ⌝ }
     ensures { λ r. ⌜ r ≡ not (all cellFine (take (cellsIn l) (now (table .entry)))) ⌝ }

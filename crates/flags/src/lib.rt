@@ -33,6 +33,7 @@ pub fn raise(flags: &mut [u32], n: usize, i: usize)
     flags[n] = with_bit(f, i, true);
 }
 
+// That of block i of row 0, if `on` says so.
 fn raise_if(flags: &mut [u32], on: bool, i: usize)
     requires { ⌜ (0 < length (now flags)) × (i < 32) ⌝ }
     ensures { λ _. ⌜ now (flags .exit) ≡ cond on (raised (now (flags .entry)) 0 i) (now (flags .entry)) ⌝ }
