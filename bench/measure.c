@@ -215,8 +215,8 @@ static int in_order(const void *a, const void *b)
     return (x > y) - (x < y);
 }
 
-/* The middle one of several times. The least would do if the clock never erred: one reading of a thousand has been seen to be
- * a third of all others. */
+/* The middle one of several times. The least depends on a single round: that of a thousand has been seen to be 37 % of what it
+ * is otherwise. */
 static double middle(const double *times, int count)
 {
     static double sorted[ROUNDS];
