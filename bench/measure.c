@@ -481,8 +481,8 @@ static void growth(void)
     }
 }
 
-/* One tick from a table in which every cell is occupied, one of ten, or those of an opening. */
-static void fills(void)
+/* One tick from a table in which every cell is occupied, one of ten, or those of an opening; or from the first of them alone. */
+static void fill_tables(const char *kind, int full_alone)
 {
     static const char *const weightings[] = {"margin", "sum"};
     static const char *const shapes[] = {"OVERSHOOT", "RINGING", "OVERSHOOT unbounded", "gearbox"};
@@ -505,11 +505,28 @@ static void fills(void)
             for (size_t c = 0; c < p->cells; c++)
                 if (draw(&d, 10) < in_ten)
                     from.first[c] = (int64_t)draw(&d, 2000000) - 1000000;
-            time_call("fill", name, in_ten * 10, p, &from, 1, values[shape], 0.5);
+            if (in_ten == 10 || !full_alone)
+                time_call(kind, name, in_ten * 10, p, &from, 1, values[shape], 0.5);
         }
         free_lent(&from);
         free(p);
     }
+}
+
+static void fills(void)
+{
+    fill_tables("fill", 0);
+}
+
+/* What depends most on where the code of this program lies, as it is linked: the full tables, and the record nearest to its
+ * limit. */
+static void layout(void)
+{
+    struct record gears = gearbox_record(ENTRIES);
+
+    time_record("layout", "gearbox, margin", window_of(gearbox("margin", 0)), gearbox("margin", 0), &gears);
+    free_record(&gears);
+    fill_tables("layout", 1);
 }
 
 /* One tick and eleven from a table of some 100,000 cells, a tenth or all of them occupied. */
@@ -1172,12 +1189,13 @@ static void memory_of(const char *name, const char *monitor, size_t entries)
 static uint8_t large_text[PATTERN_TEXT_MAX];
 static size_t large_length;
 
-/* 16 places with four tests each, 32 edges with guards and resets, four clocks, eight channels */
+/* 16 places with four tests each, 32 edges with guards and resets, four clocks, eight channels; from a window of 128 on a
+ * feed keeps more flags */
 static void make_large(void)
 {
     char *at = (char *)large_text;
 
-    at += sprintf(at, "(pattern sum 8 4 1 3)\n");
+    at += sprintf(at, "(pattern sum 8 4 1 128)\n");
     for (int i = 0; i < 16; i++)
         at += sprintf(at, "(place %s (> 0 -5) (>= 3 -9) (< 5 9) (<= 7 3))\n", i == 0 ? "start" : i == 15 ? "end" : "both");
     for (int i = 0; i < 32; i++)
@@ -1258,7 +1276,7 @@ int main(int argc, char **argv)
         const char *name;
         void (*run)(void);
     } parts[] = {{"records", records}, {"growth", growth}, {"fills", fills},       {"large", large}, {"pieces", pieces},
-                 {"bests", bests},     {"readings", readings}, {"stack", stack}, {"refusals", refusals}};
+                 {"bests", bests},     {"readings", readings}, {"stack", stack}, {"refusals", refusals}, {"layout", layout}};
 
     for (size_t i = 0; argc == 2 && i < sizeof parts / sizeof *parts; i++)
         if (strcmp(argv[1], parts[i].name) == 0) {

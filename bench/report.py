@@ -8,7 +8,7 @@ from picture import Canvas, Panel
 
 BEGIN, END = "<!-- figures: begin -->", "<!-- figures: end -->"
 COLOURS = {"library": (0, 110, 90), "gcc": (200, 90, 0), "clang": (60, 80, 190)}
-TIMED = ("record", "length", "window", "ceiling", "clocks", "sampling", "fill", "large", "piece", "best")
+TIMED = ("record", "length", "window", "ceiling", "clocks", "sampling", "fill", "large", "piece", "best", "layout")
 LONGEST_PIECE = 65535
 FILLS = {100: "all", 10: "a tenth", 0: "opening"}
 
@@ -16,12 +16,13 @@ FILLS = {100: "all", 10: "a tenth", 0: "opening"}
 class Timed:
     """A line of times: the same work by the library and by the plain monitor of two compilers."""
 
-    def __init__(self, fields):
+    def __init__(self, fields, shift=None):
         self.kind, self.name = fields[:2]
         self.varied, self.entries, self.ticks, self.cells = (int(f) for f in fields[2:6])
         self.occupied, self.ends = float(fields[6]), int(fields[7])
         self.library, self.gcc, self.clang = (float(f) for f in fields[8:11])
         self.rounds, self.spread = int(fields[11]), float(fields[12])
+        self.shift = shift
 
     def ratio(self):
         """The library's time, the faster compiler's being 1."""
@@ -35,7 +36,8 @@ class Timed:
             "ceiling": f"growth, ceiling {varied}", "clocks": f"growth, {varied} clocks",
             "sampling": f"growth, {varied} samples in 10 s", "fill": FILLS.get(self.varied),
             "large": f"100,000 cells, {FILLS.get(self.varied)}, ticks {self.ticks}",
-            "piece": f"window {varied}, ticks {self.ticks:,}", "best": f"best, window {varied}"}[self.kind]
+            "piece": f"window {varied}, ticks {self.ticks:,}", "best": f"best, window {varied}",
+            "layout": f"{'record' if self.entries > 1 else 'all'}, shifted by {self.shift}"}[self.kind]
 
 
 def table(heads, rows):
@@ -90,8 +92,9 @@ def growth_of_record(lengths):
 def by_occupation(kinds):
     """What is timed by the tick, apart from pieces: on full tables, on those with at most a tenth of the cells occupied, others.
     `length` leaves out the whole record, which is among the records."""
-    filled = kinds["fill"] + kinds["large"]
+    filled = kinds["fill"] + kinds["large"] + [t for t in kinds["layout"] if t.entries == 1]
     fed = [t for kind in ("record", "length", "window", "ceiling", "clocks", "sampling") for t in kinds[kind] if t.kind == kind]
+    fed += [t for t in kinds["layout"] if t.entries > 1]
     return ([t for t in filled if t.varied == 100],
             [t for t in filled if t.varied <= 10] + [t for t in fed if t.occupied <= 10],
             [t for t in fed if t.occupied > 10])
@@ -198,6 +201,13 @@ def report(kinds, other):
                  [[t.name, f"{t.cells:,}", FILLS[t.varied], str(t.ticks)]
                   + [number(t.cells * t.ticks / s / 1e6) for s in (t.library, t.gcc, t.clang)]
                   + ratios(t) + spread(t) for t in kinds["large"]])
+
+    out += ["### Where the code lies", "",
+            "The gearbox's record and the full tables in four programs that differ in one thing: all their code lies so many bytes",
+            "further on. Microseconds for each entry of the record, or for the one call.", ""]
+    out += table(["pattern", "occupied", "bytes", "library", "gcc -O3", "clang -O3", "time to gcc's", "to clang's", "spread"],
+                 [[t.name, share(t) if t.entries > 1 else "all", t.shift] + microseconds(t, t.entries) + ratios(t) + spread(t)
+                  for t in sorted(kinds["layout"], key=lambda t: t.name if t.entries == 1 else "")])
 
     out += ["### Length of a piece", "", "One call, in microseconds.", ""]
     out += table(["pattern", "window", "ticks", "cells", "library", "gcc -O3", "clang -O3", "times faster than gcc's", "than clang's",
@@ -311,7 +321,11 @@ def main():
     with open(figures) as file:
         for line in file:
             fields = line.rstrip("\n").split("\t")
-            if fields[0] in kinds:
+            if fields[0] == "shift":
+                shift = fields[1]
+            elif fields[0] == "layout":
+                kinds["layout"].append(Timed(fields, shift))
+            elif fields[0] in kinds:
                 kinds[fields[0]].append(Timed(fields))
             else:
                 other.setdefault(fields[0], []).append(fields[1:])

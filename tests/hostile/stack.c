@@ -14,7 +14,7 @@
 #define STACK (512 * 1024)
 #define LIMIT (64 * 1024)
 #define PAINT 0xc7
-#define CELLS 16384
+#define CELLS (129 * 2 * 16 * 54) /* as many as a window of 128 needs */
 #define PIECES RECORD_PIECES_MAX
 #define STEPS RUN_STEPS_MAX
 
@@ -94,21 +94,57 @@ static void add(const char *line)
     length += strlen(line);
 }
 
-int main(int argc, char **argv)
+/* the longest of everything but the window and the bounds: 16 places with four tests each, 32 edges with four guards and
+ * all resets */
+static void write_text(const char *window)
 {
-    int timed = argc == 2 && strcmp(argv[1], "time") == 0, failed = 0, passed = 0;
-    size_t empty;
-
-    (void)argv;
-    /* the longest of everything but the window and the bounds: 16 places with four tests each, 32 edges with four guards and
-     * all resets, a record of 4,096 pieces, a run of 4,095 steps, a feed of 65,535 ticks */
-    add("(pattern sum 8 4 1 3)\n");
+    length = 0;
+    add("(pattern sum 8 4 1 ");
+    add(window);
+    add(")\n");
     for (int i = 0; i < 16; i++)
         add(i < 2 ? "(place both (> 0 -5) (>= 1 -9) (< 2 9) (<= 7 3))\n"
                   : "(place plain (> 3 -5) (>= 4 -9) (< 5 9) (<= 6 3))\n");
     for (int i = 0; i < 16; i++)
         add("(edge 0 1 (>= 0 1) (> 1 0) (>= 2 1) (<= 3 1) (reset 0 1 2 3))\n"
             "(edge 1 0 (<= 3 1) (>= 2 1) (> 1 0) (>= 0 1) (reset 0 1 2 3))\n");
+}
+
+/* whether a call is done and takes some stack, but less than the limit */
+static int within(const char *name, void (*function)(void), size_t empty)
+{
+    size_t most;
+
+    answer = 0;
+    most = taken(function) - empty;
+    printf("%-24s %6zu bytes of stack\n", name, most);
+    return most < LIMIT && most != 0 && answer == 0;
+}
+
+static void time_calls(void (*function)(void))
+{
+    for (ticks = 1; ticks <= 1000; ticks *= function == do_feed ? 10 : 10000) {
+        double start = now(), spent;
+        uint64_t calls = 0;
+
+        do {
+            function();
+            calls++;
+        } while ((spent = now() - start) < 0.5);
+        printf("                         %.0f calls a second", (double)calls / spent);
+        if (function == do_feed)
+            printf(", %" PRIu32 " ticks each", ticks);
+        printf("\n");
+    }
+    ticks = PIECE_TICKS_MAX;
+}
+
+int main(int argc, char **argv)
+{
+    int timed = argc == 2 && strcmp(argv[1], "time") == 0, failed = 0, count = sizeof functions / sizeof *functions;
+    size_t empty;
+
+    /* a record of 4,096 pieces, a run of 4,095 steps, a feed of 65,535 ticks */
     for (int i = 0; i < PIECES; i++)
         durations[i] = 2;
     for (int i = 0; i < PIECES * 8; i++)
@@ -117,40 +153,27 @@ int main(int argc, char **argv)
         edges[i] = (uint32_t)i % 32;
         stays[i] = 1;
     }
+    write_text("3");
     stack = malloc(STACK);
-    if (!stack || pattern_cells(text, length) > CELLS) {
+    if (!stack) {
         printf("0 passed, 1 failed\n");
         return 1;
     }
     empty = taken(nothing);
-    for (size_t i = 0; i < sizeof functions / sizeof *functions; i++) {
-        size_t most;
-
-        answer = 0;
-        most = taken(functions[i].call) - empty;
-        printf("%-13s %6zu bytes of stack\n", functions[i].name, most);
-        if (most < LIMIT && most != 0 && answer == 0)
-            passed++;
-        else
-            failed++;
-        if (timed) {
-            for (ticks = 1; ticks <= 1000; ticks *= functions[i].call == do_feed ? 10 : 10000) {
-                double start = now(), spent;
-                uint64_t calls = 0;
-
-                do {
-                    functions[i].call();
-                    calls++;
-                } while ((spent = now() - start) < 0.5);
-                printf("              %.0f calls a second", (double)calls / spent);
-                if (functions[i].call == do_feed)
-                    printf(", %" PRIu32 " ticks each", ticks);
-                printf("\n");
-            }
-            ticks = PIECE_TICKS_MAX;
-        }
+    for (int i = 0; i < count; i++) {
+        failed += !within(functions[i].name, functions[i].call, empty);
+        if (timed)
+            time_calls(functions[i].call);
+    }
+    /* a feed keeps more flags if the window is larger than 127 ticks */
+    write_text("128");
+    if (pattern_cells(text, length) != CELLS)
+        failed++;
+    else {
+        do_open();
+        failed += !within("monitor_feed, window 128", do_feed, empty);
     }
     free(stack);
-    printf("%d passed, %d failed\n", passed, failed);
+    printf("%d passed, %d failed\n", count + 1 - failed, failed);
     return failed != 0;
 }

@@ -60,6 +60,8 @@ static const struct test {
     {"one clock, window 60, just opened", FIRST("margin", "60"), 1, 3, 60, 5, 0, 0, {0}, 7, {0}, 0},
     {"one clock, window 60, 105 ticks before", FIRST("margin", "60"), 1, 3, 60, 5, 15, 7, {0}, 7, {0}, 1},
     {"a call that is longer than the window", FIRST("margin", "60"), 1, 3, 60, 5, 3, 7, {0}, 100, {0}, 1},
+    {"one clock, window 127, 140 ticks before", FIRST("margin", "127"), 1, 3, 127, 5, 20, 7, {0}, 7, {0}, 1},
+    {"one clock, window 128, 140 ticks before", FIRST("margin", "128"), 1, 3, 128, 5, 20, 7, {0}, 7, {0}, 1},
     {"no clocks, one place, window 4095, 300 ticks before", ONE("sum"), 1, 1, 4095, 1, 3, 100, {0}, 5, {0}, 0},
     {"no clocks, two places, window 4095, 300 ticks before", TWO, 1, 2, 4095, 1, 3, 100, {0}, 5, {0}, 0},
     {"no clocks, two places, window 4095, 4200 ticks before", TWO, 1, 2, 4095, 1, 6, 700, {0}, 2, {0}, 1},

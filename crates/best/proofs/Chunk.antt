@@ -1,18 +1,17 @@
 -- A stretch of equal ticks fed to a monitor that stands before it in a record's book: state, tables and reports are the
 -- book's.
-use Prim.Native.Nat.{ℕ, zero, suc, _+_, _-_, _≤_, _<_}
+use Prim.Native.Nat.{ℕ, _+_, _-_, _≤_, _<_}
 use native.Mathlib.Omega.{arith}
 use mathlib.Core.Path.{_≡_, refl, sym, ap, subst, _∙_}
-use mathlib.Core.List.{List, [], _∷_, _++_, append-assoc, List·Memᴰ}
+use mathlib.Core.List.{List, _++_, append-assoc, List·Memᴰ}
 use mathlib.Core.Option.{Option, none, some}
-use mathlib.Core.Bool.{Bool, true, false}
+use mathlib.Core.Bool.{true}
 use borrow.Author.Tests.{eq-eqb, le-leb, le-ltb}
 use lib.ListN.{length, getD, replicate, length-append, length-replicate}
 use lib.IntN.{ℤ, pos}
 use Rattle.weighting.specs.Weightings.{weightingOf}
 use Rattle.pattern.specs.declared.Pattern.{Pattern}
 use Rattle.pattern.specs.declared.Refusal.{Refusal}
-use Rattle.pattern.specs.Slots.{within}
 use Rattle.pattern.specs.Sound.{soundOf}
 use Rattle.pattern.specs.Clocks.{Clocks}
 use Rattle.pattern.specs.Cells.{cellsNeeded}
@@ -33,7 +32,7 @@ use Rattle.monitor.specs.Demand.{refusalBy}
 use Rattle.monitor.proofs.CellLaws.{of-cells}
 use Rattle.monitor.proofs.Written.{held-written, written-same}
 use Rattle.monitor.proofs.PieceViews.{sample-front, before-front, view-front, longer, before-end}
-use Rattle.monitor.proofs.Between.{Fine, Between, bookTable, next, next-fine, refusal-is, ticks-in, next-length, rest-is, cell-no-mark}
+use Rattle.monitor.proofs.Between.{Fine, Between, bookTable, next, ticks-in, rest-is, cell-no-mark}
 use Rattle.monitor.proofs.Demand.{feed-given, score-at, length-at}
 use Rattle.best.specs.Best.{scoreAt, lengthAt}
 use Rattle.best.specs.Search.{tableTo, stateTo}

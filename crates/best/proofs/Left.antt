@@ -1,5 +1,5 @@
 -- The tables that are left: those of feeding the whole record.
-use Prim.Native.Nat.{ℕ, zero, suc, _+_, _-_, _*_, _≤_, _<_}
+use Prim.Native.Nat.{ℕ, zero, suc, _+_, _-_, _*_, _≤_}
 use native.Mathlib.Nat.{suc-mul}
 use native.Mathlib.Omega.{arith}
 use mathlib.Core.Path.{_≡_, refl, sym, ap, subst, _∙_}
@@ -13,11 +13,8 @@ use lib.IntN.{ℤ, pos}
 use Rattle.pattern.specs.declared.Pattern.{Pattern}
 use Rattle.pattern.specs.declared.Refusal.{Refusal}
 use Rattle.pattern.specs.Slots.{all}
-use Rattle.pattern.specs.Sound.{soundOf}
-use Rattle.pattern.specs.Clocks.{Clocks}
-use Rattle.pattern.specs.Cells.{cellsNeeded}
 use Rattle.pattern.specs.Distance.{Sample}
-use Rattle.record.specs.Record.{Piece, Book, ticksOf, piecesOf, bookOf, total, valueInRange}
+use Rattle.record.specs.Record.{Book, ticksOf, piecesOf, bookOf, total, valueInRange}
 use Rattle.pattern.proofs.SoundLaws.{both}
 use Rattle.record.proofs.ListLaws.{all-take, all-drop}
 use Rattle.record.proofs.RecordLaws.{parts}
@@ -27,13 +24,12 @@ use Rattle.book.specs.View.{viewOf}
 use Rattle.monitor.specs.Cells.{written}
 use Rattle.monitor.specs.Tick.{openTable, ticksLater}
 use Rattle.monitor.specs.Open.{unlessRefused, marks, openState, openFirst, openSecond}
-use Rattle.monitor.specs.Feed.{Call, pieceBroken, feedRefusal, tableAfter, feedState, feedFirst, feedSecond}
+use Rattle.monitor.specs.Feed.{Call, pieceBroken, tableAfter, feedState, feedFirst, feedSecond}
 use Rattle.monitor.specs.Demand.{refusalBy, bookAfter}
 use Rattle.monitor.proofs.Written.{written-again, written-same, marks-again}
 use Rattle.monitor.proofs.Between.{Fine, Between, bookTable, next, next-length, ticks-in}
 use Rattle.monitor.proofs.Demand.{feed-given, after, opened}
-use Rattle.best.specs.Best.{bestRefusal, bestFirst, bestSecond}
-use Rattle.best.specs.Claims.{cutIn, callFor, callsFor, wholeRecord, firstAfter, secondAfter, TablesLeft}
+use Rattle.best.specs.Claims.{cutIn, callFor, wholeRecord, firstAfter, secondAfter, TablesLeft}
 use Rattle.best.proofs.Whole.{causes}
 
 module _ (p : Pattern) where

@@ -1,6 +1,6 @@
 -- A sound record's book: a stretch of a piece in it, and its samples.
-use Prim.Native.Nat.{ℕ, zero, suc, _+_, _-_, _*_, _≤_, _<_}
-use native.Mathlib.Nat.{suc-mul, zero-mul}
+use Prim.Native.Nat.{ℕ, suc, _+_, _-_, _*_, _≤_, _<_}
+use native.Mathlib.Nat.{suc-mul}
 use native.Mathlib.Omega.{arith}
 use mathlib.Core.Path.{_≡_, refl, sym, ap, subst, _∙_}
 use mathlib.Core.List.{List, [], _∷_, _++_, append-assoc}
@@ -13,9 +13,9 @@ use lib.IntN.{ℤ}
 use Rattle.pattern.specs.declared.Pattern.{Pattern}
 use Rattle.pattern.specs.Slots.{all}
 use Rattle.pattern.specs.Distance.{Sample}
-use Rattle.record.specs.Record.{Book, Piece, ticksOf, piecesOf, bookOf, sampleAt, total, valueInRange, recordSound}
+use Rattle.record.specs.Record.{Book, ticksOf, piecesOf, bookOf, sampleAt, total, valueInRange}
 use Rattle.record.proofs.ListLaws.{all-take, all-drop}
-use Rattle.record.proofs.RecordLaws.{parts, total-more, length-ticks, piece-at, ticks-from, total-append}
+use Rattle.record.proofs.RecordLaws.{length-ticks, piece-at, ticks-from, total-append}
 use Rattle.monitor.proofs.PieceViews.{longer}
 
 abbrev Told : ℕ → Sample → Type 0

@@ -1,7 +1,7 @@
 -- One turn of the code through a piece: some ticks more of a sound record.
-use Prim.Native.Nat.{ℕ, zero, suc, _+_, _-_, _*_, _≤_, _<_, min}
+use Prim.Native.Nat.{ℕ, _+_, _-_, _*_, _≤_, _<_, min}
 use native.Mathlib.Omega.{arith}
-use mathlib.Core.Path.{_≡_, refl, sym, ap, subst, _∙_}
+use mathlib.Core.Path.{_≡_, sym, ap, subst, _∙_}
 use mathlib.Core.List.{List}
 use mathlib.Core.Option.{Option, none}
 use mathlib.Core.Bool.{true}
@@ -10,13 +10,10 @@ use lib.IntN.{ℤ, pos}
 use Rattle.pattern.specs.declared.Pattern.{Pattern}
 use Rattle.pattern.specs.Slots.{all}
 use Rattle.pattern.specs.Sound.{soundOf}
-use Rattle.pattern.specs.Clocks.{Clocks}
 use Rattle.pattern.specs.Cells.{cellsNeeded}
-use Rattle.pattern.specs.Distance.{Sample}
 use Rattle.record.specs.Record.{Book, sampleAt, total, valueInRange, recordSound, bookOf}
 use Rattle.record.proofs.ListLaws.{all-take, all-drop}
 use Rattle.record.proofs.RecordLaws.{parts, total-more, sample-within}
-use Rattle.walks.specs.Tables.{Table}
 use Rattle.book.specs.View as book
 use Rattle.monitor.specs.declared.State.{State}
 use Rattle.monitor.specs.Cells.{written}
@@ -28,7 +25,7 @@ use Rattle.best.specs.declared.Search.{Search}
 use Rattle.best.specs.Best.{Chosen, chosenTo, scoreAt, lengthAt}
 use Rattle.best.specs.Search.{tableTo, stateTo, chosenIn, chosenPast, chunkOf, SearchedTo, Fit}
 use Rattle.best.proofs.Choices.{past-is}
-use Rattle.best.proofs.Pieces.{fine-tick, front, rest, start, split, front-long, book-long, start-low}
+use Rattle.best.proofs.Pieces.{fine-tick, front, rest, start, split, front-long, start-low}
 use Rattle.best.proofs.Chunk.{whole, given, state-after, first-after, second-after, score-after, length-after}
 
 -- ---- a chunk

@@ -1,13 +1,12 @@
 -- Opening, and then the whole record: from the causes to the tables that are left.
-use Prim.Native.Nat.{ℕ, zero, suc, _+_, _-_, _≤_, _<_}
-use native.Mathlib.Omega.{arith}
-use mathlib.Core.Path.{_≡_, refl, sym, ap, subst, _∙_}
-use mathlib.Core.List.{List, [], _∷_, _++_}
-use mathlib.Core.Option.{Option, none, some}
+use Prim.Native.Nat.{ℕ, _-_, _≤_}
+use mathlib.Core.Path.{_≡_, sym, ap, _∙_}
+use mathlib.Core.List.{List, [], _∷_}
+use mathlib.Core.Option.{none}
 use mathlib.Core.Bool.{Bool, true, false, not}
 use borrow.Author.Tests.{not-false}
-use lib.ListN.{length, take, replicate, replicate-append-replicate}
-use lib.IntN.{ℤ, pos}
+use lib.ListN.{length}
+use lib.IntN.{ℤ}
 use Rattle.pattern.specs.declared.Pattern.{Pattern}
 use Rattle.pattern.specs.declared.Refusal.{Refusal}
 use Rattle.pattern.specs.declared.Refusal.the-variants.{UnsoundPattern, BrokenRecord, TableTooShort}
@@ -19,15 +18,13 @@ use Rattle.flags.specs.Flags.{Flagged}
 use Rattle.monitor.specs.declared.State.{State}
 use Rattle.monitor.specs.Cells.{layout, written}
 use Rattle.monitor.specs.Tick.{openTable}
-use Rattle.monitor.specs.State.{noTicks}
-use Rattle.monitor.specs.Open.{firstCause, tableTooShort, marks, openRefusal, openState, openFirst, openSecond}
-use Rattle.monitor.proofs.Written.{written-length, marks-length, written-again, marks-again}
+use Rattle.monitor.specs.Open.{tableTooShort, marks, openRefusal, openState, openFirst, openSecond}
+use Rattle.monitor.proofs.Written.{written-again, marks-again}
 use Rattle.monitor.proofs.Between.{no-cause}
 use Rattle.monitor.proofs.Demand.{open-parts, fresh}
-use Rattle.best.specs.declared.Choice.{Choice}
 use Rattle.best.specs.declared.Search.{Search}
 use Rattle.best.specs.Best.{chosenTo, bestRefusal, bestFirst, bestSecond}
-use Rattle.best.specs.Search.{tableTo, stateTo, chosenBy, chosenIn, SearchedTo, Fit}
+use Rattle.best.specs.Search.{tableTo, chosenIn, Fit}
 use Rattle.best.proofs.Pieces.{book-long}
 
 module _ (p : Pattern) (ds : List ℕ) (vs : List ℤ) where

@@ -1,6 +1,6 @@
 -- Going through a record, chunk by chunk: what the code keeps after the first n ticks of the record's book, a layer below
 -- the definitions of Best.
-use Prim.Native.Nat.{ℕ, zero, suc, _+_, _-_, _≤_, _<_}
+use Prim.Native.Nat.{ℕ, zero, suc, _+_, _-_, _≤_}
 use mathlib.Core.Path.{_≡_}
 use mathlib.Core.List.{List, _++_}
 use mathlib.Core.Option.{Option, none, some}

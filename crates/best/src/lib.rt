@@ -1,4 +1,5 @@
 // Best of a record: the record is fed to a monitor in chunks, and the best of the reports is kept.
+use cells::layout_of;
 use feed::feed_piece;
 use feed::flag_opened;
 use feed::open;
@@ -112,9 +113,11 @@ fn feed_some(
     let mut lengths: [u32; 64] = [0; 64];
     let state = s.state;
     let f = s.choice;
+    let l = layout_of(p, p.high);
     let later = feed_piece(
         state,
         p,
+        l,
         first,
         flags,
         ticks,

@@ -1,7 +1,7 @@
 -- Holding the clocks of a sound pattern at their ceilings goes unnoticed.
-use Prim.Native.Nat.{ℕ, zero, suc, _+_, _-_, _<_, _≤_, min}
+use Prim.Native.Nat.{ℕ, zero, suc, _+_, _-_, _<_, min}
 use native.Mathlib.Omega.{arith}
-use mathlib.Core.Path.{_≡_, refl, sym, ap, _∙_}
+use mathlib.Core.Path.{_≡_, refl, ap, _∙_}
 use mathlib.Core.List.{List, [], _∷_, map, zipWith, flatMap, List·Memᴰ}
 use mathlib.Core.Bool.{Bool, true, false, cond, _&&_}
 use borrow.Author.Tests.{lt-ltb, ltb-true}
@@ -12,12 +12,12 @@ use Rattle.pattern.specs.declared.Edge.{Edge}
 use Rattle.pattern.specs.declared.Pattern.{Pattern}
 use Rattle.pattern.specs.InUse.{guardsOf, edgesOf}
 use Rattle.pattern.specs.Sound.{guardInRange, guardKnown, edgeSound, soundOf}
-use Rattle.pattern.specs.Clocks.{Clocks, clockAt, onSide, guardHolds, guardsHold, afterResets}
+use Rattle.pattern.specs.Clocks.{Clocks, clockAt, guardHolds, guardsHold, afterResets}
 use Rattle.pattern.specs.Cells.{ceilingOf, radixOf, heldAt}
 use Rattle.pattern.proofs.SoundLaws.{both, parts, edge-parts}
 use Rattle.pattern.proofs.Claims.{guards-see-held}
 use Rattle.walks.specs.Holding.{Holding}
-use Rattle.book.specs.Automaton.{automatonOf, ceilings, held}
+use Rattle.book.specs.Automaton.{ceilings, held}
 use Rattle.book.specs.Claims.{CeilingsHold}
 use Rattle.book.proofs.Members.{all-member, all-same, in-flatMap}
 

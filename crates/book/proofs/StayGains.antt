@@ -1,13 +1,12 @@
 -- What a stay observes is worth what its ticks gain, one after the other.
-use Prim.Native.Nat.{ℕ, zero, suc, _+_, _≤_, _<_}
+use Prim.Native.Nat.{ℕ, zero, suc, _+_, _≤_}
 use native.Mathlib.Omega.{arith}
-use native.Mathlib.Numerals.{add-one}
 use mathlib.Core.Path.{_≡_, refl, sym, ap, subst, _∙_}
-use mathlib.Core.List.{List, [], _∷_, _++_, map}
+use mathlib.Core.List.{List, [], _∷_, map}
 use mathlib.Core.Option.{some, Option·some-injective}
-use mathlib.Core.Bool.{Bool, true, false, not, cond, _||_}
+use mathlib.Core.Bool.{Bool, true, false, not, cond}
 use lib.Dec.{T}
-use lib.ListN.{length, take, drop, getD}
+use lib.ListN.{length, take, drop}
 use lib.Seq.{drop-cons}
 use lib.IntN.{ℤ, pos, _+ℤ_, +ℤ-idr}
 use lib.Signed.{leZ}
@@ -27,7 +26,7 @@ use Rattle.record.specs.Joined.{sameSample, joined, observed, freshAfter}
 use Rattle.record.specs.Worth.{stayWorth}
 use Rattle.record.proofs.JoinedLaws.{same-self, same-true, joined-fresh}
 use Rattle.record.proofs.Claims.{margin-counts-ticks}
-use Rattle.walks.specs.Runs.{stayGains, consIf, together}
+use Rattle.walks.specs.Runs.{stayGains, together}
 use Rattle.book.specs.View.{counts, gainIn, sampleAt, before, viewOf}
 use Rattle.book.specs.Claims.{GainsAreWorths}
 

@@ -1,5 +1,5 @@
 -- Blocks and rows in a table, and the index of a cell: its range, and that it and its inverse undo each other.
-use Prim.Native.Nat.{ℕ, suc, _+_, _-_, _*_, _/_, _%_, _^_, _≤_, _<_}
+use Prim.Native.Nat.{ℕ, _+_, _-_, _*_, _/_, _%_, _^_, _≤_, _<_}
 use native.Mathlib.Omega.{arith}
 use native.Mathlib.Numerals.{add-one}
 use native.Mathlib.Nat.{suc-mul, one-mul, mul-comm, mul-assoc, add-mul, mul-le-mul-right, le-mul-of-pos-right, div-add-mod', div-lt-iff-lt-mul, mod-lt, mul-zero, zero-mul, pos-of-ne-zero}
@@ -15,6 +15,13 @@ row-next n r = omega (arith, suc-mul n r, ap (λ (m : ℕ). m * r) (add-one n))
 
 -- ---- where a block stands
 
+-- a row ends within the table, and its first i blocks end within the row
+pub row-inside : (l : Layout) (n : ℕ) → n ≤ l .high → n * l .row + l .row ≤ cellsIn l
+row-inside l n h = omega (arith, mul-le-mul-right {m = n + 1} {n = l .high + 1} (l .row) (omega arith), row-next n (l .row))
+
+pub blocks-inside : (l : Layout) → Laid l → (i : ℕ) → i ≤ 2 * l .places → i * l .block ≤ l .row
+blocks-inside l laid i h = omega (arith, mul-le-mul-right {m = i} {n = 2 * l .places} (l .block) h, laid .row-is)
+
 pub record InTable (l : Layout) (n stage p : ℕ) : Type 0 where
   pub stages : stage * l .places ≤ l .places
   pub count : stage * l .places + p ≤ (stage * l .places + p) * l .block
@@ -26,13 +33,12 @@ pub in-table : (l : Layout) (n stage p : ℕ) → Placed l n stage p → InTable
 in-table l n stage p h =
     let some = block-some l (h .laid) in
     let few : stage * l .places ≤ l .places = omega (arith, mul-le-mul-right {m = stage} {n = 1} (l .places) (h .stages), one-mul (l .places)) in
-    let up = mul-le-mul-right {m = suc (stage * l .places + p)} {n = 2 * l .places} (l .block) (omega (arith, h .place)) in
-    let whole = mul-le-mul-right {m = n + 1} {n = l .high + 1} (l .row) (omega (arith, h .low)) in
+    let up = blocks-inside l (h .laid) (stage * l .places + p + 1) (omega (arith, h .place)) in
     record {
       stages = few;
       count = le-mul-of-pos-right (stage * l .places + p) some;
-      fits = omega (arith, h .laid .row-is, up, suc-mul (stage * l .places + p) (l .block));
-      whole = omega (arith, whole, row-next n (l .row));
+      fits = omega (arith, up, row-next (stage * l .places + p) (l .block));
+      whole = row-inside l n (h .low);
       all = omega (arith, h .laid .few);
     }
 
@@ -59,7 +65,7 @@ pub row-first : (l : Layout) → l .row ≤ cellsIn l
 row-first l = omega (arith, le-mul-of-pos-right {m = l .high + 1} (l .row) (omega arith), mul-comm (l .high + 1) (l .row))
 
 pub row-fits : (l : Layout) (n : ℕ) → n < l .high → (n + 1) * l .row + l .row ≤ cellsIn l
-row-fits l n h = omega (arith, mul-le-mul-right {m = n + 1 + 1} {n = l .high + 1} (l .row) (omega arith), row-next (n + 1) (l .row))
+row-fits l n h = row-inside l (n + 1) (omega arith)
 
 -- ---- the index of a cell and what stands at an index
 

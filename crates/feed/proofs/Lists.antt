@@ -3,12 +3,11 @@ use Prim.Native.Nat.{ℕ, zero, suc, _+_, _-_, _≤_, _<_}
 use native.Mathlib.Omega.{arith}
 use native.Mathlib.Numerals.{add-one}
 use mathlib.Core.Path.{_≡_, refl, sym, ap, subst, _∙_}
-use mathlib.Core.Logic.{_⊎_, inl, inr}
 use mathlib.Core.List.{List, [], _∷_, _++_, map}
 use mathlib.Core.Bool.{Bool, true, false}
 use borrow.Author.Tests.{ltb-true, ltb-false}
 use lib.Dec.{ltb}
-use lib.ListN.{length, drop, getD, set, replicate, length-append, length-drop, length-map}
+use lib.ListN.{length, drop, getD, replicate, length-map}
 use lib.Seq.{ext-getD, getD-append-add, getD-drop}
 use lib.IntN.{ℤ, pos}
 use Rattle.weighting.specs.Cell.{mark, cellOf, heldIn}
@@ -18,8 +17,6 @@ use Rattle.pattern.specs.Sound.{soundOf}
 use Rattle.pattern.specs.Clocks.{Clocks}
 use Rattle.pattern.specs.Cells.{cellsNeeded}
 use Rattle.walks.specs.Tables.{Table}
-use Rattle.cells.specs.declared.Layout.{Layout}
-use Rattle.cells.specs.Layout.{cellsIn}
 use Rattle.table.specs.Moves.{cellAt, marked, cleared}
 use Rattle.monitor.specs.Cells.{from, upTo, stateAt, written}
 use Rattle.monitor.specs.Open.{marks}

@@ -3,9 +3,9 @@ use Prim.Native.Nat.{ℕ, zero, suc, _+_, _-_, _*_, _≤_, _<_}
 use native.Mathlib.Omega.{arith}
 use mathlib.Core.Path.{_≡_, refl, sym, ap, subst, fun-ext, _∙_}
 use mathlib.Core.Logic.{_⊎_, inl, inr, ⊎-elim}
-use mathlib.Core.List.{List, [], _∷_, _++_, map, List·Memᴰ}
-use mathlib.Core.Option.{Option, none, some}
-use mathlib.Core.Bool.{Bool, true, false, not, cond, _&&_, _||_}
+use mathlib.Core.List.{List, _++_, map, List·Memᴰ}
+use mathlib.Core.Option.{none, some}
+use mathlib.Core.Bool.{Bool, true, false, not, cond, _||_}
 use borrow.Author.Tests.{leb-true, lt-ltb}
 use native.Mathlib.Nat.{mul-le-mul-right}
 use lib.Dec.{T, leb, ltb}
@@ -25,13 +25,12 @@ use Rattle.pattern.specs.declared.Edge.{Edge}
 use Rattle.pattern.specs.Slots.{all}
 use Rattle.pattern.specs.Sound.{noPlace, soundOf}
 use Rattle.pattern.specs.InUse.{placeAt}
-use Rattle.pattern.specs.Kinds as kinds
 use Rattle.pattern.specs.Clocks.{Clocks}
 use Rattle.pattern.specs.Cells.{cellsNeeded}
 use Rattle.pattern.specs.Distance.{Sample}
 use Rattle.pattern.proofs.SoundLaws.{parts}
 use Rattle.record.specs.Record.{valueInRange}
-use Rattle.walks.specs.Automaton.{State as Place′, TickView}
+use Rattle.walks.specs.Automaton.{State as Place′}
 use Rattle.walks.specs.Tables.{Table, next}
 use Rattle.walks.proofs.Cut.{only-cells}
 use Rattle.walks.proofs.Rows.{reports-only-cells}
@@ -40,11 +39,10 @@ use Rattle.book.specs.View.{counts, gainIn, tickView}
 use Rattle.book.proofs.Members.{all-member, at-member}
 use Rattle.cells.specs.declared.Layout.{Layout}
 use Rattle.cells.specs.Layout.{layoutOf, cellsIn, Laid}
-use Rattle.cells.specs.Index.{blockAt}
 use Rattle.cells.proofs.Blocks.{row-next}
 use Rattle.table.specs.declared.View.{View}
 use Rattle.table.specs.declared.report.Report.{Report}
-use Rattle.table.specs.Moves.{cellAt, tickOf, openOf, gainAt}
+use Rattle.table.specs.Moves.{cellAt, openOf, gainAt}
 use Rattle.table.specs.Reports.{noted, toldOf}
 use Rattle.table.proofs.Told.{told-keeps}
 use Rattle.table.specs.Asks.{Sized, Known, Whole, Ticking, Filed}
@@ -54,12 +52,12 @@ use Rattle.table_laws.proofs.Rows.{tick-keeps-whole, tick-leaves-further, open-
 use Rattle.table_laws.proofs.Tick.{open-is-opening, tick-is-next}
 use Rattle.table_laws.proofs.Report.{told-is-report}
 use Rattle.table_laws.proofs.Patterns.{about-pattern, known-pattern}
-use Rattle.monitor.specs.Cells.{layout, stateAt, indexOf, cellStates, isCell, heldBy, written, upTo}
+use Rattle.monitor.specs.Cells.{layout, stateAt, cellStates, heldBy, written, upTo}
 use Rattle.monitor.specs.Tick as monitor
 use Rattle.monitor.specs.Tick.{openTable, ticksLater, scoreIn, lengthIn}
 use Rattle.monitor.specs.Feed.{cellFine, pieceView}
 use Rattle.monitor.proofs.Numbers.{made-in, made-only}
-use Rattle.monitor.proofs.CellLaws.{laid, cells-are, at-index, celled-at, is-cell, of-cells, Celled}
+use Rattle.monitor.proofs.CellLaws.{laid, cells-are, at-index, celled-at, is-cell}
 use Rattle.monitor.proofs.Sizes.{GainSized, gain-sized}
 use Rattle.feed_ticks.specs.Ticks.{kindFlag, kindFlags, gainsOf, viewIn, Ground, groundOf, viewAt, tableTo, scoresTo, lengthsTo, reportIn, Telling}
 use Rattle.feed.proofs.Lists.{same-default, is-written}

@@ -1,4 +1,5 @@
 // Opening a monitor and feeding it a piece. The state goes in by value and comes back beside the answer.
+use cells::Layout;
 use cells::layout_of;
 use feed_checks::feed_refusal;
 use feed_checks::open_refusal;
@@ -17,7 +18,7 @@ use table_tick::clear;
 ghost use mathlib.Core.Path.{_≡_};
 ghost use mathlib.Core.Bool.{true, false, not};
 ghost use mathlib.Core.Option.{none};
-ghost use Prim.Native.Nat.{_≤_};
+ghost use Prim.Native.Nat.{_≤_, _<_};
 ghost use mathlib.Core.List.{List, _++_};
 ghost use lib.ListN.{length, take, drop};
 ghost use lib.IntN.{ℤ};
@@ -55,13 +56,12 @@ fn no_ticks() -> State
     }
 }
 
-// The needed cells of the second table are all marks.
-fn mark_all(p: Pattern, second: &mut [i64])
-    requires { ⌜ soundOf p ≡ true ⌝ }
+// The needed cells of the second table are all marks. Only the contract speaks of the pattern.
+fn mark_all(p: Pattern, l: Layout, second: &mut [i64])
+    requires { ⌜ (soundOf p ≡ true) × (l ≡ layout p) ⌝ }
     requires { ⌜ cellsNeeded p ≤ length (now second) ⌝ }
     ensures { λ _. ⌜ now (second .exit) ≡ marks p (now (second .entry)) ⌝ }
 {
-    let l = layout_of(p, p.high);
     clear(second, 0, (l.high + 1) * l.row);
 }
 
@@ -77,7 +77,7 @@ fn open_both(p: Pattern, first: &mut [i64], second: &mut [i64])
     let w = p.weighing;
     let starts = kind_flags(false, p);
     table_tick::open(first, l, w, starts);
-    mark_all(p, second);
+    mark_all(p, l, second);
 }
 
 // Opening: 7, 11; else no ticks, the empty runs, and marks.
@@ -131,6 +131,7 @@ fn last_after(last: [i32; 8], values: &[i32]) -> [i32; 8]
 // stands still: the rest of the reports is the last one again.
 fn tell_piece(
     p: Pattern,
+    l: Layout,
     new: bool,
     duration: u32,
     values: &[i32],
@@ -139,7 +140,7 @@ fn tell_piece(
     scores: &mut [i64],
     lengths: &mut [u32],
 )
-    requires { ⌜ (soundOf p ≡ true) × (all valueInRange (now values) ≡ true)
+    requires { ⌜ (soundOf p ≡ true) × (l ≡ layout p) × (all valueInRange (now values) ≡ true)
         × (cellsNeeded p ≤ length (now first)) × (all cellFine (take (cellsNeeded p) (now first)) ≡ true)
         × (duration ≤ length (now scores)) × (duration ≤ length (now lengths)) × (Flagged (layout p) (now first) (now flags)) ⌝ }
     ensures { λ _. ⌜ now (first .exit)
@@ -150,7 +151,6 @@ fn tell_piece(
         ≡ lengthsIn p new (now (values .entry)) (now (first .entry)) duration (now (lengths .entry)) ⌝ }
     ensures { λ _. ⌜ Flagged (layout p) (now (first .exit)) (now (flags .exit)) ⌝ }
 {
-    let l = layout_of(p, p.high);
     let w = p.weighing;
     let v = view_in(p, values, new);
     let u = view_in(p, values, false);
@@ -184,6 +184,7 @@ fn tell_piece(
 pub fn feed_piece(
     s: State,
     p: Pattern,
+    l: Layout,
     first: &mut [i64],
     flags: &mut [u32],
     duration: u32,
@@ -193,7 +194,7 @@ pub fn feed_piece(
 ) -> State
     requires { ⌜ (feedCause p s (now first) (length (now first)) duration (now values)
         (length (now scores)) (length (now lengths)) ≡ none)
-        × (Flagged (layout p) (now first) (now flags)) ⌝ }
+        × (l ≡ layout p) × (Flagged (layout p) (now first) (now flags)) ⌝ }
     ensures { λ r. ⌜ r ≡ pieceLater p s duration (now (values .entry)) ⌝ }
     ensures { λ _. ⌜ now (first .exit)
         ≡ written p (tableAfter p s (now (first .entry)) (now (values .entry)) duration) (now (first .entry)) ⌝ }
@@ -204,7 +205,7 @@ pub fn feed_piece(
     ensures { λ _. ⌜ Flagged (layout p) (now (first .exit)) (now (flags .exit)) ⌝ }
 {
     let new = is_new(p, s, values);
-    tell_piece(p, new, duration, values, first, flags, scores, lengths);
+    tell_piece(p, l, new, duration, values, first, flags, scores, lengths);
     let before = s.last;
     let last = last_after(before, values);
     State {
@@ -213,7 +214,59 @@ pub fn feed_piece(
     }
 }
 
-// Feeding a piece: 7, 12, 11, 8, 13, 14, 6; else a score and a length for each tick.
+// Feeding a piece, with flags lent for it, at least one number for each row. What they hold before does not matter.
+fn feed_with(
+    s: State,
+    p: Pattern,
+    first: &mut [i64],
+    second: &mut [i64],
+    duration: u32,
+    values: &[i32],
+    scores: &mut [i64],
+    lengths: &mut [u32],
+    flags: &mut [u32],
+) -> After
+    requires { ⌜ (soundOf p ≡ true → p .high < length (now flags)) ⌝ }
+    ensures { λ r. ⌜ r ≡ fedOf p s (now (first .entry)) (now (second .entry))
+        (callOf duration (now (values .entry)) (now (scores .entry)) (now (lengths .entry))) ⌝ }
+    ensures { λ _. ⌜ now (first .exit) ≡ feedFirst p s (now (first .entry)) (now (second .entry))
+        (callOf duration (now (values .entry)) (now (scores .entry)) (now (lengths .entry))) ⌝ }
+    ensures { λ _. ⌜ now (second .exit) ≡ feedSecond p s (now (first .entry)) (now (second .entry))
+        (callOf duration (now (values .entry)) (now (scores .entry)) (now (lengths .entry))) ⌝ }
+    ensures { λ _. ⌜ now (scores .exit) ≡ feedScores p s (now (first .entry)) (now (second .entry))
+        (callOf duration (now (values .entry)) (now (scores .entry)) (now (lengths .entry))) ⌝ }
+    ensures { λ _. ⌜ now (lengths .exit) ≡ feedLengths p s (now (first .entry)) (now (second .entry))
+        (callOf duration (now (values .entry)) (now (scores .entry)) (now (lengths .entry))) ⌝ }
+{
+    match feed_refusal(
+        p,
+        s,
+        first,
+        second.len(),
+        duration,
+        values,
+        scores.len(),
+        lengths.len(),
+        flags,
+    ) {
+        Answer::Done => {
+            let l = layout_of(p, p.high);
+            let state = feed_piece(s, p, l, first, flags, duration, values, scores, lengths);
+            mark_all(p, l, second);
+            After {
+                state: state,
+                answer: Answer::Done,
+            }
+        }
+        Answer::Refused(r) => After {
+            state: s,
+            answer: Answer::Refused(r),
+        },
+    }
+}
+
+// Feeding a piece: 7, 12, 11, 8, 13, 14, 6; else a score and a length for each tick. A table of few rows gets few flags:
+// clearing those of the highest window is a measurable part of a short call on it.
 pub fn feed(
     s: State,
     p: Pattern,
@@ -235,29 +288,30 @@ pub fn feed(
     ensures { λ _. ⌜ now (lengths .exit) ≡ feedLengths p s (now (first .entry)) (now (second .entry))
         (callOf duration (now (values .entry)) (now (scores .entry)) (now (lengths .entry))) ⌝ }
 {
+    if p.high < 128 {
+        let mut few: [u32; 128] = [0; 128];
+        return feed_with(
+            s,
+            p,
+            first,
+            second,
+            duration,
+            values,
+            scores,
+            lengths,
+            &mut few,
+        );
+    }
     let mut flags: [u32; 4096] = [0; 4096];
-    match feed_refusal(
-        p,
+    feed_with(
         s,
+        p,
         first,
-        second.len(),
+        second,
         duration,
         values,
-        scores.len(),
-        lengths.len(),
+        scores,
+        lengths,
         &mut flags,
-    ) {
-        Answer::Done => {
-            let state = feed_piece(s, p, first, &mut flags, duration, values, scores, lengths);
-            mark_all(p, second);
-            After {
-                state: state,
-                answer: Answer::Done,
-            }
-        }
-        Answer::Refused(r) => After {
-            state: s,
-            answer: Answer::Refused(r),
-        },
-    }
+    )
 }

@@ -1,7 +1,6 @@
 -- How flags are found, block by block and row by row: a block is left without one only where all its cells are marks.
 use Prim.Native.Nat.{ℕ, _+_, _*_, _^_, _≤_, _<_}
 use native.Mathlib.Omega.{arith}
-use native.Mathlib.Nat.{mul-le-mul-right}
 use mathlib.Core.Path.{_≡_, sym}
 use mathlib.Core.List.{List}
 use mathlib.Core.Bool.{Bool, true, false, not, cond}
@@ -17,7 +16,7 @@ use Rattle.pattern.specs.Slots.{all}
 use Rattle.record.proofs.ListLaws.{all-at}
 use Rattle.cells.specs.declared.Layout.{Layout}
 use Rattle.cells.specs.Layout.{Laid, cellsIn}
-use Rattle.cells.proofs.Blocks.{row-next}
+use Rattle.cells.proofs.Blocks.{row-next, row-inside, blocks-inside}
 use Rattle.flags.specs.Flags.{bitAt, startAt, RowFlagged}
 use Rattle.flags.proofs.Bits.{or-keeps, or-sets}
 use Rattle.feed_checks.specs.Mark.{isMark}
@@ -41,15 +40,9 @@ module _ (t : List ℤ) where
   flagged-more from size i x true fits e h = below-more _ i (λ j l k m z. h j l k m (or-keeps x (2 ^ i) j z)) (λ k m z. absurd (or-sets x i z))
   flagged-more from size i x false fits e h = below-more _ i h (λ k m z. marked (from + i * size) size fits (not-false _ (sym e)) k m)
 
-module _ (l : Layout) (laid : Laid l) (n : ℕ) (low : n ≤ l .high) where
-  -- a row, and a block of it, end within the table
-  pub row-inside : n * l .row + l .row ≤ cellsIn l
-  row-inside = let u = mul-le-mul-right {m = n + 1} {n = l .high + 1} (l .row) (omega arith) in omega (arith, row-next n (l .row))
-
-  pub block-inside : (i : ℕ) → i < 2 * l .places → startAt l n i + l .block ≤ cellsIn l
-  block-inside i h =
-      let u = mul-le-mul-right {m = i + 1} {n = 2 * l .places} (l .block) (omega arith) in
-      omega (arith, row-inside, row-next i (l .block), laid .row-is)
+-- a block of a row ends within the table
+pub block-inside : (l : Layout) → Laid l → (n i : ℕ) → n ≤ l .high → i < 2 * l .places → startAt l n i + l .block ≤ cellsIn l
+block-inside l laid n i low h = omega (arith, row-inside l n low, blocks-inside l laid (i + 1) (omega arith), row-next i (l .block))
 
 -- one row more
 pub rows-more : (l : Layout) (t : List ℤ) (f : List ℕ) (n x : ℕ) → n < length f → ((m : ℕ) → m < n → RowFlagged l t (getD f m 0) m) → RowFlagged l t x n

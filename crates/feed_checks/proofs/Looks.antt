@@ -1,5 +1,5 @@
 -- What a look at the cells of a table finds: at one cell alone, and in a loop with one cell or one part of the table more.
-use Prim.Native.Nat.{ℕ, _+_, _*_, _<_}
+use Prim.Native.Nat.{ℕ, zero, suc, _+_, _*_, _≤_, _<_}
 use native.Mathlib.Omega.{arith}
 use mathlib.Core.Path.{_≡_, refl}
 use mathlib.Core.List.{List}
@@ -24,6 +24,14 @@ module _ (f : ℤ → Bool) (t : List ℤ) (at i : ℕ) where
   part-more size =
       rw (row-next i size, take-add (i * size) size (drop at t), drop-drop (i * size) at t)
       (all-append f (take (i * size) (drop at t)) (take size (drop (at + i * size) t)))
+
+-- what holds of a value holds of all cells that have it
+pub same-all : (f : ℤ → Bool) (t : List ℤ) (at : ℕ) (z : ℤ) → f z ≡ true → (i : ℕ) → at + i ≤ length t
+    → ((j : ℕ) → j < i → getD t (at + j) (pos 0) ≡ z) → all f (take i (drop at t)) ≡ true
+same-all f t at z on zero fits same = refl
+same-all f t at z on (suc i) fits same =
+    let e : suc i ≡ i + 1 = omega arith in
+    rw (e, cell-more f t at i (omega arith), same-all f t at z on i (omega arith) (λ j h. same j (omega arith)), same i (omega arith)) on
 
 -- one cell alone
 pub one-cell : (f : ℤ → Bool) (t : List ℤ) (at : ℕ) → at < length t → all f (take 1 (drop at t)) ≡ f (getD t at (pos 0))

@@ -11,15 +11,16 @@ use pattern::Refusal;
 use pattern::cells;
 use record::rules::all_in_range;
 use record::rules::in_range;
+use table_blocks::occupied;
 use weighting::MARK;
 ghost use mathlib.Core.Path.{_≡_};
-ghost use mathlib.Core.Bool.{not, cond, _&&_, _||_};
+ghost use mathlib.Core.Bool.{true, not, cond, _&&_, _||_};
 ghost use mathlib.Core.Option.{none};
 ghost use Prim.Native.Nat.{_+_, _*_, _≤_, _<_};
 ghost use lib.Dec.{ltb};
 ghost use lib.ListN.{length, take, drop};
 ghost use Rattle.pattern.specs.Slots.{all};
-ghost use Rattle.pattern.specs.Sound.{isNull};
+ghost use Rattle.pattern.specs.Sound.{isNull, soundOf};
 ghost use Rattle.record.specs.Record.{valueInRange};
 ghost use Rattle.cells.specs.Layout.{cellsIn, Laid};
 ghost use Rattle.flags.specs.Flags.{RowFlagged, Flagged};
@@ -80,22 +81,16 @@ pub struct Look {
     pub held: bool,
 }
 
-// The cells of one block. A block of one cell, as in a pattern without clocks, is looked at without a loop.
+// The cells of one block. The marks before its first worth are passed over, as a tick passes over them.
 fn look_block(table: &[i64], at: usize, size: usize) -> Look
     requires { ⌜ at + size ≤ length (now table) ⌝ }
     ensures { λ r. ⌜ r .fine ≡ all cellFine (take size (drop at (now (table .entry)))) ⌝ }
     ensures { λ r. ⌜ r .held ≡ not (all isMark (take size (drop at (now (table .entry))))) ⌝ }
 {
-    if size == 1 {
-        let v = table[at];
-        return Look {
-            fine: cell_fine(v),
-            held: v != MARK,
-        };
-    }
+    let first = occupied(table, at, 0, size);
     let mut fine = true;
     let mut held = false;
-    let mut i: usize = 0;
+    let mut i = first.cell;
     while i < size {
         let v = table[at + i];
         fine = fine & cell_fine(v);
@@ -114,12 +109,38 @@ pub struct RowLook {
     pub flags: u32,
 }
 
+// A row whose blocks have one cell each, as in a pattern without clocks: one loop over its cells.
+fn look_cells(table: &[i64], l: Layout, n: usize) -> RowLook
+    requires { ⌜ (Laid l) × (cellsIn l ≤ length (now table)) × (n ≤ l .high) × (l .block ≡ 1) ⌝ }
+    ensures { λ r. ⌜ r .fine ≡ all cellFine (take (l .row) (drop (n * l .row) (now (table .entry)))) ⌝ }
+    ensures { λ r. ⌜ RowFlagged l (now (table .entry)) (r .flags) n ⌝ }
+{
+    let count = l.row;
+    let from = n * l.row;
+    let mut fine = true;
+    let mut flags: u32 = 0;
+    let mut i: usize = 0;
+    while i < count {
+        let v = table[from + i];
+        fine = fine & cell_fine(v);
+        flags = with_bit(flags, i, v != MARK);
+        i += 1;
+    }
+    RowLook {
+        fine: fine,
+        flags: flags,
+    }
+}
+
 fn look_row(table: &[i64], l: Layout, n: usize) -> RowLook
     requires { ⌜ (Laid l) × (cellsIn l ≤ length (now table)) × (n ≤ l .high) ⌝ }
     ensures { λ r. ⌜ r .fine ≡ all cellFine (take (l .row) (drop (n * l .row) (now (table .entry)))) ⌝ }
     ensures { λ r. ⌜ RowFlagged l (now (table .entry)) (r .flags) n ⌝ }
 {
     let size = l.block;
+    if size == 1 {
+        return look_cells(table, l, n);
+    }
     let count = 2 * l.places;
     let from = n * l.row;
     let mut fine = true;
@@ -137,7 +158,7 @@ fn look_row(table: &[i64], l: Layout, n: usize) -> RowLook
     }
 }
 
-// Of a table only the needed cells count. Each is looked at once, row by row, which also finds the flags of its blocks.
+// Of a table only the needed cells count. They are looked at row by row, which also finds the flags of their blocks.
 pub fn cells_broken(table: &[i64], l: Layout, flags: &mut [u32]) -> bool
     requires { ⌜ (Laid l) × (cellsIn l ≤ length (now table)) × (l .high < length (now flags)) ⌝ }
     ensures { λ r. ⌜ r ≡ not (all cellFine (take (cellsIn l) (now (table .entry)))) ⌝ }
@@ -190,7 +211,7 @@ pub fn feed_refusal(
     lengths: usize,
     flags: &mut [u32],
 ) -> Answer
-    requires { ⌜ 4096 ≤ length (now flags) ⌝ }
+    requires { ⌜ (soundOf p ≡ true → p .high < length (now flags)) ⌝ }
     ensures { λ r. ⌜ r ≡ answerOf
         (feedCause p s (now (first .entry)) second duration (now (values .entry)) scores lengths) ⌝ }
     ensures { λ _. ⌜ (feedCause p s (now (first .entry)) second duration (now (values .entry)) scores lengths ≡ none

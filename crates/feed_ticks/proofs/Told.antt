@@ -4,15 +4,13 @@ use native.Mathlib.Omega.{arith}
 use native.Mathlib.Numerals.{add-one}
 use mathlib.Core.Path.{_≡_, refl, sym, ap, subst, _∙_}
 use mathlib.Core.List.{List, [], _∷_, _++_, map, map-append, append-assoc}
-use lib.ListN.{length, drop, getD, set, length-append, length-drop, length-map, length-set}
+use lib.ListN.{length, drop, getD, set, length-map, length-set}
 use lib.Seq.{drop-cons, set-at}
 use lib.IntN.{ℤ, pos}
-use Rattle.cells.specs.Layout.{cellsIn}
 use Rattle.table.specs.declared.View.{View}
-use Rattle.table.specs.declared.report.Report.{Report}
 use Rattle.table.specs.Moves.{tickOf}
 use Rattle.table.specs.Reports.{toldOf}
-use Rattle.table.specs.Asks.{Known, Whole, Ticking}
+use Rattle.table.specs.Asks.{Whole, Ticking}
 use Rattle.table_laws.proofs.Rows.{tick-keeps-whole, tick-leaves-further}
 use Rattle.monitor.specs.Cells.{from, upTo}
 use Rattle.monitor.proofs.Numbers.{from-length}

@@ -8,7 +8,9 @@ use pattern::Place;
 use pattern::distance::place_worth;
 use pattern::is_end;
 use pattern::is_start;
+use steps::steps_of;
 use table::View;
+use table::links_of;
 use table_tick::tick;
 use weighting::Weighing;
 use weighting::unit;
@@ -20,7 +22,7 @@ ghost use lib.IntN.{pos};
 ghost use Rattle.table.specs.Moves.{tickOf};
 ghost use Rattle.table.specs.Reports.{toldOf};
 ghost use Rattle.flags.specs.Flags.{Flagged};
-ghost use Rattle.table.specs.Asks.{Ticking};
+ghost use Rattle.table.specs.Asks.{Ticking, Routed};
 ghost use Rattle.feed_ticks.specs.Ticks.{kindFlag, kindFlags, viewIn, viewAt, groundOf};
 ghost use Rattle.feed_ticks.specs.Ticks.{Telling, tableTo, scoresTo, lengthsTo, repeated};
 
@@ -104,12 +106,14 @@ fn tell(
     v: View,
     edges: [Edge; 32],
     count: usize,
+    links: &[u8; 48],
+    steps: &[usize; 416],
     starts: [bool; 16],
     ends: [bool; 16],
     low: usize,
 )
-    requires { ⌜ (Ticking (now first) l v edges count) × (i < length (now scores)) × (i < length (now lengths))
-        × (Flagged l (now first) (now flags)) ⌝ }
+    requires { ⌜ (Ticking (now first) l v edges count) × (Routed edges count (now links) (now steps))
+        × (i < length (now scores)) × (i < length (now lengths)) × (Flagged l (now first) (now flags)) ⌝ }
     ensures { λ _. ⌜ now (first .exit) ≡ tickOf l w v edges count starts (now (first .entry)) ⌝ }
     ensures { λ _. ⌜ now (scores .exit)
         ≡ set (now (scores .entry)) i (toldOf l w v edges count ends low (now (first .entry)) .score) ⌝ }
@@ -117,14 +121,27 @@ fn tell(
         ≡ set (now (lengths .entry)) i (toldOf l w v edges count ends low (now (first .entry)) .length) ⌝ }
     ensures { λ _. ⌜ Flagged l (now (first .exit)) (now (flags .exit)) ⌝ }
 {
-    let r = tick(first, flags, l, w, v, edges, count, starts, ends, low);
+    let r = tick(
+        first,
+        flags,
+        l,
+        w,
+        v,
+        edges,
+        count,
+        links,
+        steps,
+        starts,
+        ends,
+        low,
+    );
     let score = r.score;
     let ticks = r.length as u32;
     scores[i] = score;
     lengths[i] = ticks;
 }
 
-// All ticks of a piece, each with its report.
+// All ticks of a piece, each with its report. The edges are the same in all of them, so their links and steps are made once.
 pub fn tell_all(
     first: &mut [i64],
     flags: &mut [u32],
@@ -150,6 +167,8 @@ pub fn tell_all(
         ≡ lengthsTo (groundOf l w edges count starts ends low) v u (now (first .entry)) (now (lengths .entry)) duration ⌝ }
     ensures { λ _. ⌜ Flagged l (now (first .exit)) (now (flags .exit)) ⌝ }
 {
+    let links = links_of(edges, count);
+    let steps = steps_of(edges, count);
     let mut i: usize = 0;
     while i < duration {
         let seen = view_at(v, u, i);
@@ -164,6 +183,8 @@ pub fn tell_all(
             seen,
             edges,
             count,
+            &links,
+            &steps,
             starts,
             ends,
             low,

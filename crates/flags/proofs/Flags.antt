@@ -1,8 +1,8 @@
 -- What stays right of the flags when a flag is raised, a cell is written, or a row is cleared.
-use Prim.Native.Nat.{ℕ, zero, suc, _+_, _-_, _*_, _^_, _≤_, _<_}
+use Prim.Native.Nat.{ℕ, _+_, _-_, _*_, _^_, _≤_, _<_}
 use native.Mathlib.Omega.{arith}
 use native.Mathlib.Nat.{mul-le-mul-right}
-use mathlib.Core.Path.{_≡_, refl, sym, ap, _∙_}
+use mathlib.Core.Path.{_≡_, refl, _∙_}
 use mathlib.Core.Bool.{Bool, true, false}
 use mathlib.Core.List.{List}
 use mathlib.Core.Logic.{_⊎_, inl, inr}
@@ -15,7 +15,7 @@ use lib.IntN.{ℤ, pos}
 use Rattle.weighting.specs.Cell.{mark}
 use Rattle.cells.specs.declared.Layout.{Layout}
 use Rattle.cells.specs.Layout.{Laid}
-use Rattle.cells.proofs.Blocks.{row-next}
+use Rattle.cells.proofs.Blocks.{row-next, blocks-inside}
 use Rattle.flags.specs.Flags.{bitAt, startAt, raised, RowFlagged, Flagged, IsRaised, Higher, Grown}
 use Rattle.flags.proofs.Bits.{or-keeps, or-sets, no-bit}
 
@@ -88,9 +88,7 @@ grown-trans a b = record { flagged = b .flagged; higher = higher-trans (a .highe
 module _ (l : Layout) (laid : Laid l) where
   -- a block's cells lie in its row
   pub in-row : (i k : ℕ) → i < 2 * l .places → k < l .block → i * l .block + k < l .row
-  in-row i k hi hk =
-      let u = mul-le-mul-right {m = i + 1} {n = 2 * l .places} (l .block) (omega arith) in
-      omega (arith, row-next i (l .block), laid .row-is)
+  in-row i k hi hk = omega (arith, blocks-inside l laid (i + 1) (omega arith), row-next i (l .block))
 
   -- more flags than are needed are right, too
   flagged-higher : (t : List ℤ) (f g : List ℕ) → Higher f g → Flagged l t f → Flagged l t g

@@ -3,7 +3,7 @@ use Prim.Native.Nat.{_≤_}
 use native.Mathlib.Omega.{arith}
 use mathlib.Core.Path.{_≡_, refl}
 use mathlib.Core.Logic.{_↔_}
-use mathlib.Core.Bool.{true, false}
+use mathlib.Core.Bool.{false}
 use Rattle.pattern.specs.Sound.{soundOf, headerInRange}
 use Rattle.pattern.specs.Cells.{cellsOf}
 use Rattle.pattern_text.specs.Bytes.{Bytes}

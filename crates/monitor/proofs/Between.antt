@@ -2,7 +2,6 @@
 use Prim.Native.Nat.{ℕ, zero, suc, _+_, _-_, _≤_, _<_}
 use native.Mathlib.Omega.{arith}
 use mathlib.Core.Path.{_≡_, refl, sym, ap, subst, _∙_}
-use mathlib.Core.Logic.{⊎-elim}
 use mathlib.Core.List.{List, [], _∷_, _++_, List·Memᴰ}
 use mathlib.Core.Option.{Option, none, some, Option·none-ne-some}
 use mathlib.Core.Bool.{Bool, true, false, not, cond, _&&_, _||_, or-true}
@@ -11,7 +10,6 @@ use lib.Dec.{T, eqb, leb, ltb}
 use lib.ListN.{length, take, drop, getD, replicate, length-append, length-replicate, List·getD-eq-default}
 use lib.Seq.{take-at, drop-at}
 use lib.IntN.{ℤ, pos, natAbs}
-use Rattle.weighting.specs.declared.Weighing.{Weighing}
 use Rattle.weighting.specs.Weightings.{weightingOf}
 use Rattle.weighting.specs.Cell.{mark}
 use Rattle.weighting.proofs.Cell.{NoMark}
@@ -28,19 +26,19 @@ use Rattle.pattern.proofs.SlotLaws.{all-append}
 use Rattle.record.specs.Record.{Book, valueInRange}
 use Rattle.record.specs.Joined.{sameSample}
 use Rattle.walks.specs.Automaton.{State as Place, View}
-use Rattle.walks.specs.Tables.{Table, tableAt}
+use Rattle.walks.specs.Tables.{Table}
 use Rattle.walks.proofs.Cut.{cut, only-passed, only-cells}
 use Rattle.book.specs.View.{sampleAt, before, viewOf}
 use Rattle.book.specs.Automaton.{sameClocks, heldAutomaton}
 use Rattle.monitor.specs.declared.State.{State}
 use Rattle.monitor.specs.Cells.{cellStates, heldBy, written}
 use Rattle.monitor.specs.Tick.{openTable, ticksLater}
-use Rattle.monitor.specs.State.{noTicks, lastSample, stateSound, pieceLater}
-use Rattle.monitor.specs.Open.{firstCause, tableTooShort, marks}
-use Rattle.monitor.specs.Feed.{Call, pieceBroken, tooManyTicks, cellsBroken, reportsTooShort, feedCause, feedRefusal, isNew, pieceView, tableAfter}
+use Rattle.monitor.specs.State.{lastSample, stateSound, pieceLater}
+use Rattle.monitor.specs.Open.{firstCause, marks}
+use Rattle.monitor.specs.Feed.{Call, pieceBroken, tooManyTicks, reportsTooShort, feedCause, feedRefusal, isNew, pieceView, tableAfter}
 use Rattle.monitor.specs.Demand.{refusalBy}
 use Rattle.monitor.proofs.CellLaws.{Celled, of-cells, in-cells}
-use Rattle.monitor.proofs.Sizes.{Sized, table-sized, sized-low}
+use Rattle.monitor.proofs.Sizes.{table-sized, sized-low}
 use Rattle.monitor.proofs.Written.{held-written, written-length, marks-length, cells-fine}
 use Rattle.monitor.proofs.PieceViews.{sample-front, view-front, longer, sample-new, view-new, before-end}
 

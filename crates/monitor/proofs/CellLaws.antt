@@ -3,12 +3,12 @@ use Prim.Native.Nat.{ℕ, zero, suc, _+_, _≤_, _<_, _-_, min}
 use native.Mathlib.Omega.{arith}
 use mathlib.Core.Path.{_≡_, refl, sym, ap, subst, _∙_}
 use mathlib.Core.List.{List, [], _∷_, map, zipWith, List·Memᴰ}
-use mathlib.Core.Bool.{Bool, true, false, cond, _&&_}
+use mathlib.Core.Bool.{Bool, true, false, cond}
 use borrow.Author.Tests.{lt-ltb, ltb-true, ltb-false}
 use lib.Dec.{T, eqb, ltb}
 use lib.ListN.{length, getD, drop, length-map, length-drop, List·getD-eq-default}
 use lib.Seq.{getD-drop}
-use Rattle.integers.proofs.Tests.{T-true, true-T}
+use Rattle.integers.proofs.Tests.{T-true}
 use Rattle.pattern.specs.declared.Edge.{Edge}
 use Rattle.pattern.specs.declared.Pattern.{Pattern}
 use Rattle.pattern.specs.InUse.{placeAt, edgesOf}
@@ -17,24 +17,23 @@ use Rattle.pattern.specs.declared.Kind.{Kind}
 use Rattle.pattern.specs.declared.Kind.the-variants.{Start, Plain, End, Both}
 use Rattle.pattern.specs.Slots.{slots}
 use Rattle.pattern.specs.Sound.{noPlace, isPlain, testUnused, placeUnused, soundOf, edgeSound}
-use Rattle.pattern.specs.Clocks.{Clocks, zeroClocks, later, afterResets}
-use Rattle.pattern.specs.Cells.{cellsNeeded, cellsFor, radixOf}
+use Rattle.pattern.specs.Clocks.{Clocks, later, afterResets}
+use Rattle.pattern.specs.Cells.{cellsNeeded, radixOf}
 use Rattle.pattern.proofs.SoundLaws.{both, parts, edge-parts}
 use Rattle.pattern.proofs.ListLaws.{length-zip}
-use Rattle.walks.specs.Automaton.{State, entering, stayed, taken, sameState}
+use Rattle.walks.specs.Automaton.{State, entering, stayed, taken}
 use Rattle.walks.specs.Walks.{Move, stays, takes}
 use Rattle.walks.specs.Tables.{Closed}
 use Rattle.walks.proofs.States as states
 use Rattle.book.specs.Automaton.{ceilings, held, sameClocks, heldAutomaton}
 use Rattle.book.proofs.Members.{all-member, at-member}
-use Rattle.cells.specs.declared.Layout.{Layout}
 use Rattle.cells.specs.Layout.{layoutOf, Laid, cellsIn}
 use Rattle.cells.specs.Index as cell
 use Rattle.cells.proofs.Layouts.{layout-laid, cells-in-layout, radix-some}
 use Rattle.cells.specs.Index.{Found, At}
 use Rattle.cells.proofs.Blocks.{found, at}
 use Rattle.cells.proofs.Digits.{ticked-within, reset-within}
-use Rattle.monitor.specs.Cells.{upTo, layout, stateAt, indexOf, cellStates, isCell}
+use Rattle.monitor.specs.Cells.{layout, stateAt, indexOf, cellStates, isCell}
 use Rattle.monitor.proofs.Numbers.{made-in, made-only}
 
 none-unused : placeUnused noPlace ≡ true

@@ -1,16 +1,15 @@
 -- Demand 3: each call is right, from the opening on.
-use Prim.Native.Nat.{ℕ, zero, suc, _+_, _-_, _≤_, _<_}
+use Prim.Native.Nat.{ℕ, suc, _+_, _-_, _≤_, _<_}
 use native.Mathlib.Omega.{arith}
 use mathlib.Core.Path.{_≡_, refl, sym, ap, subst, _∙_}
 use mathlib.Core.Logic.{_⊎_, inl, inr}
-use mathlib.Core.List.{List, [], _∷_, _++_, map, List·Memᴰ}
+use mathlib.Core.List.{List, [], _∷_, _++_, map}
 use mathlib.Core.Option.{Option, none, some}
-use mathlib.Core.Bool.{Bool, true, false, not}
+use mathlib.Core.Bool.{true, false, not}
 use borrow.Author.Tests.{ltb-false, not-false}
 use lib.Dec.{T, ltb}
 use lib.ListN.{length, drop, getD, replicate, replicate-append-replicate}
 use lib.IntN.{ℤ, pos}
-use Rattle.weighting.specs.declared.Weighing.{Weighing}
 use Rattle.weighting.specs.Weightings.{weightingOf}
 use Rattle.pattern.specs.declared.Pattern.{Pattern}
 use Rattle.pattern.specs.declared.Refusal.{Refusal}
@@ -20,7 +19,7 @@ use Rattle.pattern.specs.Clocks.{Clocks}
 use Rattle.pattern.specs.Cells.{cellsNeeded}
 use Rattle.pattern.proofs.SoundLaws.{parts}
 use Rattle.record.specs.Record.{Book}
-use Rattle.walks.specs.Reports.{Wanted, Reported, reportAt}
+use Rattle.walks.specs.Reports.{Wanted, Reported}
 use Rattle.walks.proofs.Rows.{reports-only-cells}
 use Rattle.walks.proofs.ReportsBest.{reports-say}
 use Rattle.book.specs.Automaton.{automatonOf, held, sameClocks, heldAutomaton}
@@ -33,7 +32,7 @@ use Rattle.monitor.specs.Cells.{upTo, cellStates, written}
 use Rattle.monitor.specs.Tick.{openTable, ticksLater, reportOf, scoreIn, lengthIn}
 use Rattle.monitor.specs.State.{noTicks}
 use Rattle.monitor.specs.Open.{answerOf, answerNumber, unlessRefused, marks, tableTooShort, openRefusal, openState, openFirst, openSecond}
-use Rattle.monitor.specs.Feed.{Call, feedRefusal, tableAfter, reportAfter, feedState, feedFirst, feedSecond, feedScores, feedLengths}
+use Rattle.monitor.specs.Feed.{Call, feedRefusal, reportAfter, feedState, feedFirst, feedSecond, feedScores, feedLengths}
 use Rattle.monitor.specs.Demand.{refusalBy, bookAfter, InWindow, BestRun, NoRun, Accepted, Rejected, Right, AllRight, Demand3, PossibleNumber, AllPossible, OnlyThreeCauses}
 use Rattle.monitor.proofs.Answers.{possible-number}
 use Rattle.monitor.proofs.Numbers.{made-front, made-rest, told-length}

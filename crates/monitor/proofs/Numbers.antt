@@ -1,11 +1,11 @@
 -- The numbers below n, and what is made of each of them.
 use Prim.Native.Nat.{ℕ, zero, suc, _+_, _-_, _≤_, _<_}
 use native.Mathlib.Omega.{arith}
-use mathlib.Core.Path.{_≡_, refl, sym, ap, subst, _∙_}
+use mathlib.Core.Path.{_≡_, refl, ap, subst, _∙_}
 use mathlib.Core.Logic.{⊎-elim}
-use mathlib.Core.List.{List, [], _∷_, _++_, map, List·Memᴰ, List·Memᴰ·head, List·Memᴰ·tail, List·Memᴰ·cases-cons, List·Memᴰ·not-nil}
-use lib.ListN.{length, take, drop, getD, length-map, length-append, length-drop, List·getD-append}
-use lib.Seq.{drop-at, take-at}
+use mathlib.Core.List.{List, _++_, map, List·Memᴰ, List·Memᴰ·head, List·Memᴰ·tail, List·Memᴰ·cases-cons, List·Memᴰ·not-nil}
+use lib.ListN.{length, drop, getD, length-map, length-append, length-drop, List·getD-append}
+use lib.Seq.{drop-at}
 use Rattle.monitor.specs.Cells.{from, upTo}
 
 pub from-length : (i n : ℕ) → length (from i n) ≡ n

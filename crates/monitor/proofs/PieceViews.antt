@@ -2,18 +2,16 @@
 use Prim.Native.Nat.{ℕ, zero, suc, _+_, _-_, _≤_, _<_}
 use native.Mathlib.Omega.{arith}
 use mathlib.Core.Path.{_≡_, refl, sym, subst, _∙_}
-use mathlib.Core.List.{List, [], _∷_, _++_}
-use mathlib.Core.Option.{Option, none, some}
-use mathlib.Core.Bool.{Bool, true, false, not}
-use lib.ListN.{length, take, drop, getD, replicate, getD-replicate, List·getD-append}
+use mathlib.Core.List.{List, [], _++_}
+use mathlib.Core.Bool.{Bool, not}
+use lib.ListN.{length, getD, replicate, getD-replicate, List·getD-append}
 use lib.Seq.{getD-append-add}
-use lib.IntN.{ℤ, pos}
 use Rattle.pattern.specs.declared.Pattern.{Pattern}
 use Rattle.pattern.specs.Distance.{Sample}
 use Rattle.record.specs.Record.{Book}
 use Rattle.record.specs.Joined.{sameSample}
 use Rattle.record.proofs.JoinedLaws.{same-self}
-use Rattle.book.specs.View.{tickView, sampleAt, before, viewOf}
+use Rattle.book.specs.View.{sampleAt, before, viewOf}
 use Rattle.monitor.specs.Feed.{pieceView}
 
 -- a book's ticks are the same once more is added to it

@@ -1,35 +1,32 @@
 -- How large worths come: "within ±32,760,000,000". A cell of length n is within 8,000,000 × n in sum, and within 2,000,001 in
 -- margin.
-use Prim.Native.Nat.{ℕ, zero, suc, _+_, _*_, _≤_, _<_, max}
+use Prim.Native.Nat.{ℕ, suc, _*_, _≤_, _<_}
 use native.Mathlib.Omega.{arith}
-use native.Mathlib.Nat.{mul-le-mul-left}
-use mathlib.Core.Path.{_≡_, refl, sym, ap, subst, _∙_}
-use mathlib.Core.List.{List, [], _∷_, List·Memᴰ}
-use mathlib.Core.Option.{Option, none, some, Option·some-injective}
+use mathlib.Core.Path.{_≡_, refl, ap, subst}
+use mathlib.Core.List.{List, List·Memᴰ}
+use mathlib.Core.Option.{Option, some, Option·some-injective}
 use mathlib.Core.Bool.{Bool, true, false, not, cond, _&&_}
 use borrow.Author.Tests.{ltb-true, ltb-false, eqb-true}
 use lib.Dec.{T, eqb, ltb}
-use lib.ListN.{length, take, getD}
-use lib.IntN.{ℤ, pos, natAbs}
+use lib.ListN.{length}
+use lib.IntN.{ℤ, natAbs}
 use Rattle.integers.proofs.Ranges.{abs-add, abs-min}
 use Rattle.weighting.specs.declared.Weighing.{Weighing}
 use Rattle.weighting.specs.declared.Weighing.the-variants.{Margin, Sum}
 use Rattle.weighting.specs.Weighting.{combineFrom}
 use Rattle.weighting.specs.Weightings.{weightingOf}
-use Rattle.weighting.specs.Cell.{mark}
-use Rattle.pattern.specs.declared.Place.{Place}
 use Rattle.pattern.specs.declared.Pattern.{Pattern}
 use Rattle.pattern.specs.InUse.{placeAt}
 use Rattle.pattern.specs.Slots.{all}
 use Rattle.pattern.specs.Sound.{isPlain, placeUnused, soundOf}
 use Rattle.pattern.specs.Clocks.{Clocks}
 use Rattle.pattern.specs.Distance.{Sample, distancesOf, placeWorth}
-use Rattle.pattern.proofs.SoundLaws.{both, parts}
+use Rattle.pattern.proofs.SoundLaws.{both}
 use Rattle.record.specs.Record.{Book, valueInRange}
 use Rattle.record.specs.Joined.{sameSample}
 use Rattle.record.proofs.PlaceLaws.{place-at-sound, margin-place-size, place-size}
-use Rattle.walks.specs.Automaton.{State, View}
-use Rattle.walks.specs.Tables.{Table, opening, tableAt}
+use Rattle.walks.specs.Automaton.{State}
+use Rattle.walks.specs.Tables.{Table, opening}
 use Rattle.walks.proofs.States.{opening-holds}
 use Rattle.walks.proofs.Kept.{kept}
 use Rattle.book.specs.View.{counts, gainIn, sampleAt, before, viewOf}

@@ -4,7 +4,7 @@ use native.Mathlib.Omega.{arith}
 use mathlib.Core.Path.{_≡_, refl, sym, ap, subst, _∙_}
 use mathlib.Core.List.{List, [], _∷_, _++_, map, List·Memᴰ}
 use mathlib.Core.Option.{Option, none, some}
-use mathlib.Core.Bool.{Bool, true, false, cond, _||_, or-true}
+use mathlib.Core.Bool.{Bool, true, false, or-true}
 use borrow.Author.Tests.{le-leb}
 use lib.Dec.{leb}
 use lib.ListN.{length, take, drop, getD, length-append, length-drop, length-map, length-take, replicate, length-replicate}
@@ -21,7 +21,7 @@ use Rattle.pattern.specs.Clocks.{Clocks}
 use Rattle.pattern.specs.Cells.{cellsNeeded}
 use Rattle.walks.specs.Automaton.{State}
 use Rattle.walks.specs.Tables.{Table}
-use Rattle.monitor.specs.Cells.{upTo, cellStates, stateAt, indexOf, isCell, heldBy, written}
+use Rattle.monitor.specs.Cells.{upTo, cellStates, stateAt, indexOf, heldBy, written}
 use Rattle.monitor.specs.Open.{marks}
 use Rattle.monitor.specs.Feed.{cellFine, cellsBroken}
 use Rattle.monitor.proofs.Numbers.{from-length, made-front, made-rest, made-in, made-same}

@@ -1,10 +1,10 @@
 -- The monitor's state (document 01, 'Monitor tables', 'Feed a piece').
 use Prim.Native.Nat.{ℕ, _+_}
 use mathlib.Core.List.{_++_}
-use mathlib.Core.Bool.{Bool, not, cond, _&&_, _||_}
+use mathlib.Core.Bool.{Bool, not, _&&_, _||_}
 use lib.Dec.{eqb, leb}
-use lib.ListN.{length, take, drop, replicate}
-use lib.IntN.{ℤ, pos}
+use lib.ListN.{take, drop, replicate}
+use lib.IntN.{pos}
 use Rattle.pattern.specs.declared.Pattern.{Pattern}
 use Rattle.pattern.specs.Slots.{all}
 use Rattle.pattern.specs.Sound.{isNull}

@@ -2,8 +2,7 @@
 use Prim.Native.Nat.{ℕ, zero, suc, _+_, _-_, _*_, _^_, _≤_, _<_}
 use native.Mathlib.Nat.{mul-le-mul, mul-one, pow-suc, pow-le-pow-right, add-zero, add-suc}
 use native.Mathlib.Omega.{arith}
-use mathlib.Core.Path.{_≡_, refl, sym, ap, subst, _∙_}
-use mathlib.Core.Logic.{⊎-elim}
+use mathlib.Core.Path.{_≡_, refl, ap, _∙_}
 use mathlib.Core.List.{List, [], _∷_, flatMap}
 use mathlib.Core.Bool.{Bool, true, false, cond, _&&_}
 use borrow.Author.Tests.{leb-true, lt-ltb, le-ltb}
@@ -15,7 +14,7 @@ use Rattle.pattern.specs.InUse.{guardsOf, edgesOf}
 use Rattle.pattern.specs.Slots.{all}
 use Rattle.pattern.specs.Sound.{guardInRange, guardKnown, edgeSound, soundOf}
 use Rattle.pattern.specs.Cells.{boundsOn, largest, ceilingOf, radixOf, clockCells, radixProduct, cellsFor, cellsNeeded, FourRadices, CellsFit}
-use Rattle.pattern.proofs.SoundLaws.{both, Parts, parts, edge-parts}
+use Rattle.pattern.proofs.SoundLaws.{both, parts, edge-parts}
 use Rattle.pattern.proofs.CeilingLaws.{largest-on}
 
 -- ---- no bound of a sound pattern is over 1,000

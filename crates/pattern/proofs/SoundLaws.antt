@@ -1,17 +1,15 @@
 -- What a sound pattern has, taken out of the test, part by part.
 use Prim.Native.Nat.{ℕ, _≤_, _<_}
 use mathlib.Core.Path.{_≡_, refl}
-use mathlib.Core.List.{List, [], _∷_}
+use mathlib.Core.List.{List}
 use mathlib.Core.Bool.{Bool, true, false, not, _&&_}
 use native.Mathlib.Omega.{arith}
 use borrow.Author.Tests.{eqb-true, leb-true, ltb-true}
 use lib.Dec.{eqb, leb, ltb}
 use lib.ListN.{length, take, drop}
-use Rattle.pattern.specs.declared.Guard.{Guard}
 use Rattle.pattern.specs.declared.Edge.{Edge}
 use Rattle.pattern.specs.declared.Pattern.{Pattern}
-use Rattle.pattern.specs.InUse.{guardsOf, placesOf, edgesOf}
-use Rattle.pattern.specs.Slots.{all, slots, within, anything}
+use Rattle.pattern.specs.Slots.{all, slots, anything}
 use Rattle.pattern.specs.Sound.{guardInRange, guardKnown, guardUnused, placeSound, placeUnused, edgeSound, edgeUnused, headerInRange, soundOf}
 
 pub both : (a b : Bool) → a && b ≡ true → (a ≡ true) × (b ≡ true)

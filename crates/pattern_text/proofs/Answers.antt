@@ -1,22 +1,21 @@
 -- The answer to a text is its outcome.
-use Prim.Native.Nat.{ℕ, _≤_, _<_}
+use Prim.Native.Nat.{ℕ, _≤_}
 use mathlib.Core.Path.{_≡_, refl, sym, ap, subst, _∙_}
 use mathlib.Core.Option.{Option, none, some}
-use mathlib.Core.List.{List, [], _∷_, _++_, append-nil, append-assoc}
+use mathlib.Core.List.{[], _∷_, _++_, append-nil, append-assoc}
 use mathlib.Core.Bool.{Bool, true, false, cond}
 use native.Mathlib.Omega.{arith}
 use lib.Dec.{ltb}
 use lib.ListN.{length}
 use borrow.Author.Tests.{ltb-true, ltb-false, lt-ltb, le-ltb}
 use Rattle.pattern.specs.declared.Refusal.{Refusal}
-use Rattle.pattern.specs.declared.Refusal.the-variants.{TextTooLong, BrokenForm, OutOfRange, TooMany, UnknownIndex}
+use Rattle.pattern.specs.declared.Refusal.the-variants.{TextTooLong, BrokenForm}
 use Rattle.pattern.specs.Refusal.{numberOf}
 use Rattle.pattern_text.specs.Bytes.{Bytes, bytes, Flat}
-use Rattle.pattern_text.specs.Line.{Raw, header, place, edge, Header, PlaceLine, EdgeLine, renderLine, lineOf}
+use Rattle.pattern_text.specs.Line.{Raw, header, place, edge, PlaceLine, EdgeLine, lineOf}
 use Rattle.pattern_text.specs.Fault.{Doc, judged, headerFault, placeFault, edgeFault, Step, next, stop, unless, isEmpty, withPlace, withEdge, stepOf}
 use Rattle.pattern_text.specs.Text.{Answer, accepted, refused, Lines, line, rest, linesOf, patternOf, finish, meant, onward, readLines, readOf}
 use Rattle.pattern_text.specs.Claims.{Says, nothing, onemore, Outcome, long, faulty, unended, whole, AnswersExact, RefusalNumbers}
-use Rattle.pattern_text.proofs.Tools.{by-test}
 use Rattle.pattern_text.proofs.LineLaws.{form, line-flat}
 use Rattle.pattern_text.proofs.Cut.{cut, uncut, AllFlat, all-flat, joined, joined-lines}
 

@@ -1,5 +1,5 @@
 -- What is read without a fault fits, and what fits is read without a fault.
-use Prim.Native.Nat.{ℕ, suc, _+_, _≤_, _<_}
+use Prim.Native.Nat.{ℕ, _+_, _≤_, _<_}
 use mathlib.Core.Path.{_≡_, refl, sym, ap, ap₂, subst, _∙_}
 use mathlib.Core.List.{List, [], _∷_, _++_, map, map-append, append-nil, append-assoc}
 use mathlib.Core.Option.{Option, none, some}
@@ -14,7 +14,7 @@ use Rattle.pattern.specs.Slots.{all}
 use Rattle.pattern.specs.Sound.{testInRange, testKnown, guardInRange, headerInRange}
 use Rattle.pattern_text.specs.Bytes.{Bytes, bytes}
 use Rattle.pattern_text.specs.Form.{writeMany}
-use Rattle.pattern_text.specs.Line.{Header, PlaceLine, EdgeLine, Raw, renderLine, lineOf, header, place, edge}
+use Rattle.pattern_text.specs.Line.{Header, PlaceLine, EdgeLine, Raw, renderLine, header, place, edge}
 use Rattle.pattern_text.specs.Fault.{Doc, judged, edgeKnown, headerFault, placeFault, edgeFault, Step, unless, isEmpty, withPlace, withEdge, stepOf, next, stop}
 use Rattle.pattern_text.specs.Text.{rawsOf, ended}
 use Rattle.pattern_text.specs.Claims.{Says, nothing, onemore}

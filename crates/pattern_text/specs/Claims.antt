@@ -4,17 +4,17 @@ use mathlib.Core.Path.{_≡_}
 use mathlib.Core.Logic.{_↔_}
 use mathlib.Core.Bool.{Bool, true, false}
 use mathlib.Core.Option.{Option, none, some}
-use mathlib.Core.List.{List, [], _∷_, _++_}
+use mathlib.Core.List.{[], _∷_, _++_}
 use lib.ListN.{length}
 use Rattle.pattern.specs.declared.Refusal.{Refusal}
 use Rattle.pattern.specs.declared.Refusal.the-variants.{TextTooLong, BrokenForm}
 use Rattle.pattern.specs.declared.Pattern.{Pattern}
 use Rattle.pattern.specs.Refusal.{numberOf}
 use Rattle.pattern.specs.Sound.{soundOf}
-use Rattle.pattern_text.specs.Bytes.{Bytes, bytes, Flat, Reading, got, broken}
+use Rattle.pattern_text.specs.Bytes.{Bytes, bytes, Flat, got}
 use Rattle.pattern_text.specs.Numeral.{decimal, startsDigit, numeralOf}
 use Rattle.pattern_text.specs.Line.{Raw, renderLine, lineOf}
-use Rattle.pattern_text.specs.Fault.{Doc, Step, next, stop, stepOf}
+use Rattle.pattern_text.specs.Fault.{Doc, next, stop, stepOf}
 use Rattle.pattern_text.specs.Text.{Answer, accepted, refused, finish, meant, readOf, renderOf}
 
 -- Some bytes begin with the numeral of n, and then no digit, exactly if reading gives n and the rest.

@@ -6,7 +6,6 @@ use lib.Dec.{ltb}
 use lib.ListN.{length}
 use Rattle.pattern.specs.declared.Refusal.the-variants.{UnsoundPattern, OutputTooShort}
 use Rattle.pattern.specs.Sound.{soundOf}
-use Rattle.pattern.specs.Refusal.{numberOf}
 use Rattle.pattern_text.specs.Text.{renderOf}
 use Rattle.pattern_write.specs.declared.Written.the-variants.{Length, Refused}
 use Rattle.pattern_write.specs.Written.{writtenAs, WrittenNumbers}

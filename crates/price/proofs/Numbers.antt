@@ -1,12 +1,10 @@
 -- The answers of `price` in document 01's numbers: by cases on what is asked.
-use Prim.Native.Nat.{ℕ}
 use mathlib.Core.Path.{_≡_, refl}
 use mathlib.Core.Bool.{Bool, true, false, cond}
 use mathlib.Core.Option.{Option, none, some}
 use lib.IntN.{ℤ, pos}
 use Rattle.pattern.specs.declared.Refusal.the-variants.{UnsoundPattern, BrokenRecord, BrokenSteps}
 use Rattle.pattern.specs.Sound.{soundOf}
-use Rattle.pattern.specs.Refusal.{numberOf}
 use Rattle.record.specs.Record.{recordSound, bookOf}
 use Rattle.record.specs.Run.{stepsOf}
 use Rattle.record.specs.Worth.{priceOf}

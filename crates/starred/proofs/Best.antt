@@ -1,12 +1,10 @@
 -- What each run of document 01's pattern on its record is worth, and the best at each end.
-use Prim.Native.Nat.{ℕ}
 use native.Mathlib.Omega.{arith}
 use mathlib.Core.Path.{_≡_, refl}
 use mathlib.Core.List.{zipWith}
 use mathlib.Core.Option.{some}
-use lib.IntN.{ℤ, pos, negsuc}
+use lib.IntN.{pos, negsuc}
 use Rattle.integers.specs.Least.{minZ}
-use Rattle.weighting.specs.declared.Weighing.{Weighing}
 use Rattle.weighting.specs.declared.Weighing.the-variants.{Margin, Sum}
 use Rattle.weighting.specs.Weighting.{combineFrom}
 use Rattle.pattern.specs.Clocks.{guardsHold, afterResets}

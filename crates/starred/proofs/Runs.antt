@@ -1,7 +1,7 @@
 -- The runs of document 01's pattern: two steps, each of 1 or 2 ticks.
 use Prim.Native.Nat.{ℕ, zero, suc, _+_, _≤_, _<_}
 use native.Mathlib.Omega.{arith}
-use mathlib.Core.Path.{_≡_, refl, sym, ap, subst, _∙_}
+use mathlib.Core.Path.{_≡_, refl, sym, ap, subst}
 use mathlib.Core.Logic.{_⊎_, inl, inr, ⊎-elim}
 use mathlib.Core.List.{List, [], _∷_, zipWith}
 use mathlib.Core.Option.{Option, none, some, Option·none-ne-some}
@@ -12,11 +12,11 @@ use lib.ListN.{length}
 use lib.IntN.{ℤ}
 use Rattle.weighting.specs.declared.Weighing.{Weighing}
 use Rattle.pattern.specs.InUse.{placeAt, edgeAt}
-use Rattle.pattern.specs.Kinds.{isStart, isEnd}
+use Rattle.pattern.specs.Kinds.{isStart}
 use Rattle.pattern.specs.Clocks.{Clocks, zeroClocks, later, guardsHold, afterResets}
 use Rattle.pattern.proofs.SoundLaws.{both}
 use Rattle.record.specs.Record.{Book}
-use Rattle.record.specs.Run.{Step, canStep, clocksAfter, goes, isRun, lengthOf}
+use Rattle.record.specs.Run.{Step, canStep, goes, isRun, lengthOf}
 use Rattle.record.specs.Worth.{priceOf, runWorth}
 use Rattle.record.proofs.StepLaws.{can-parts}
 use Rattle.starred.specs.Example.{example}

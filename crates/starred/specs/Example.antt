@@ -6,7 +6,7 @@
 --   (edge 0 1 (< 0 3) (reset 0))
 --   (edge 1 2 (<= 0 2))
 use Prim.Native.Nat.{ℕ}
-use mathlib.Core.List.{List, [], _∷_, _++_}
+use mathlib.Core.List.{List, [], _∷_}
 use mathlib.Core.Bool.{true, false}
 use lib.ListN.{replicate}
 use lib.IntN.{ℤ, pos}

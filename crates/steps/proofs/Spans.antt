@@ -2,10 +2,10 @@
 -- edge does.
 use Prim.Native.Nat.{ℕ, zero, suc, _+_, _-_, _*_, _/_, _%_, _≤_, _<_, min, max}
 use native.Mathlib.Omega.{arith}
-use mathlib.Core.Path.{_≡_, refl, sym, ap, ap₂, subst, _∙_}
+use mathlib.Core.Path.{_≡_, refl, sym, ap, ap₂, _∙_}
 use mathlib.Core.Bool.{Bool, true, false, cond, _&&_, and-true}
-use mathlib.Core.List.{List, [], _∷_, _++_, zipWith}
-use borrow.Author.Tests.{ltb-true, ltb-false, leb-true, leb-false, lt-ltb, le-ltb, le-leb, lt-leb, eq-eqb, ne-eqb, eqb-true, eqb-false}
+use mathlib.Core.List.{List, [], _∷_, zipWith}
+use borrow.Author.Tests.{ltb-true, leb-true, lt-ltb, le-leb, eqb-true, eqb-false}
 use lib.Dec.{eqb, leb, ltb}
 use lib.ListN.{length, getD, set, take}
 use lib.Seq.{getD-set-same, getD-set-other}
@@ -22,7 +22,7 @@ use Rattle.pattern.proofs.ListLaws.{take-in-use, take-more}
 use Rattle.pattern.proofs.SlotLaws.{all-snoc}
 use Rattle.pattern.proofs.SoundLaws.{both}
 use Rattle.steps.specs.declared.Span.{Span}
-use Rattle.steps.specs.Steps.{edgeIn, stepAt, inSpan, goesIn, keptBy, afterIn, Fit, StepOf, Steps}
+use Rattle.steps.specs.Steps.{edgeIn, stepAt, inSpan, goesIn, keptBy, Fit, StepOf, Steps}
 use Rattle.steps.specs.Made.{narrowed, narrowedOn, spanOf, numberOf}
 
 pub span-more : (e : Edge) (k n : ℕ) → narrowedOn k (getD (e .guards) n noGuard) (spanOf e k n) ≡ spanOf e k (n + 1)

@@ -1,4 +1,4 @@
-// The edges of a pattern as numbers, made once a tick, so that a move along one needs no edge.
+// The edges of a pattern as numbers, made once for all ticks of a call, so that a move along one needs no edge.
 use pattern::Edge;
 use pattern::Guard;
 use pattern::Sign;
@@ -6,7 +6,6 @@ use pattern::clocks::in_use;
 ghost use mathlib.Core.Path.{_≡_};
 ghost use mathlib.Core.Bool.{cond};
 ghost use Prim.Native.Nat.{ℕ, _+_, _≤_, _<_, min, max};
-ghost use lib.Dec.{eqb};
 ghost use lib.ListN.{getD};
 ghost use Rattle.steps.specs.Steps.{stepAt, inSpan, goesIn, keptBy, afterIn, edgeIn, Fit, Steps};
 ghost use Rattle.steps.specs.Made.{narrowed, narrowedOn, spanOf, numberOf};

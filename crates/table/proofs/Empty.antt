@@ -1,7 +1,7 @@
 -- Cells that hold only marks move nothing and tell nothing: a block, both blocks of a place, a row.
-use Prim.Native.Nat.{ℕ, zero, suc, _+_, _*_, _≤_, _<_, zero-le}
+use Prim.Native.Nat.{ℕ, _+_, _≤_, _<_, zero-le}
 use native.Mathlib.Omega.{arith}
-use mathlib.Core.Path.{_≡_, refl, sym, ap, _∙_}
+use mathlib.Core.Path.{_≡_, refl, sym}
 use mathlib.Core.Bool.{Bool, true, false}
 use mathlib.Core.List.{List}
 use lib.IntN.{ℤ}
@@ -11,27 +11,28 @@ use Rattle.weighting.specs.Cell.{mark}
 use Rattle.pattern.specs.declared.Edge.{Edge}
 use Rattle.cells.specs.declared.Layout.{Layout}
 use Rattle.cells.specs.Index.{blockAt}
-use Rattle.flags.specs.Flags.{flagAt, startAt, RowFlagged}
+use Rattle.flags.specs.Flags.{flagAt, RowFlagged}
 use Rattle.flags.proofs.Flags.{no-flags}
 use Rattle.table.specs.declared.View.{View}
 use Rattle.table.specs.declared.report.Report.{Report}
 use Rattle.table.specs.Moves.{cellAt, each, passOf, placeOf, placesOf}
 use Rattle.table.specs.Reports.{toldPass, toldPlace, toldPlaces}
 use Rattle.table.specs.Asks.{Empty}
-use Rattle.table.proofs.Steps.{visits-skip, pass-is, pass-no}
+use Rattle.table.proofs.Steps.{each-skip, visits-skip, pass-is, pass-no}
 use Rattle.table.proofs.Told.{told-skip, told-pass, told-pass-no}
 use Rattle.table.proofs.Flags.{flag-low, block-start}
 
 -- no turn changes anything
 each-none : {A : Type 0} (f : ℕ → A → A) (m : ℕ) (a : A) → ((i : ℕ) → i < m → f i a ≡ a) → each f m a ≡ a
 unfolding each
-each-none f zero a h = refl
-each-none f (suc m) a h = ap (f m) (each-none f m a (λ i k. h i (omega arith))) ∙ h m (omega arith)
+each-none f m a h =
+    let e : 0 + m ≡ m = omega arith in
+    rw e at (each-skip f m 0 a (λ j x y. h j (omega arith)))
 
 module _ (l : Layout) (w : Weighing) (es : List Edge) (count : ℕ) (t : List ℤ) where
   module _ (g : ℤ) (n p at : ℕ) (empty : Empty t at (l .block)) where
-    none : (j : ℕ) → 0 ≤ j → j < l .block → ltZ mark (cellAt t (at + j)) ≡ false
-    none j x y = rw (empty j y) refl
+    none : (j : ℕ) → 0 ≤ j → j < l .block → cellAt t (at + j) ≡ mark
+    none j x y = empty j y
 
     pub empty-pass : passOf l w es count g n p at t ≡ t
     unfolding each

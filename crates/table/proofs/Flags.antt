@@ -1,7 +1,7 @@
 -- What each step on the table keeps of the flags.
 use Prim.Native.Nat.{ℕ, zero, suc, _+_, _-_, _*_, _/_, _%_, _≤_, _<_}
 use native.Mathlib.Omega.{arith}
-use native.Mathlib.Nat.{zero-mul, mul-le-mul-right, div-add-mod', div-lt-iff-lt-mul, mod-lt}
+use native.Mathlib.Nat.{zero-mul, div-add-mod', div-lt-iff-lt-mul, mod-lt}
 use mathlib.Core.Path.{_≡_, refl, sym, ap, _∙_}
 use mathlib.Core.Bool.{Bool, true, false, cond}
 use mathlib.Core.List.{List}
@@ -20,7 +20,7 @@ use Rattle.pattern.specs.Clocks.{Clocks, guardsHold, afterResets}
 use Rattle.cells.specs.declared.Layout.{Layout}
 use Rattle.cells.specs.Layout.{Laid, cellsIn}
 use Rattle.cells.specs.Index.{codeOf, ticked, Within, blockAt}
-use Rattle.cells.proofs.Blocks.{row-next}
+use Rattle.cells.proofs.Blocks.{row-inside}
 use Rattle.cells.proofs.Digits.{block-some, coded, reset-within, ticked-within}
 use Rattle.flags.specs.Flags.{bitAt, flagAt, startAt, raised, startFlags, RowFlagged, Flagged, IsRaised, Grown}
 use Rattle.flags.proofs.Flags.{raised-is, grown-refl, raised-grown, flagged-write, flagged-put, flagged-wiped, no-flags, in-row}
@@ -156,7 +156,7 @@ module _ (l : Layout) (laid : Laid l) where
       flagged-wiped l laid t (marked t (n * l .row) (l .row)) f n low k (λ i h. marked-in t (n * l .row) (l .row) i h inside) (λ i h. marked-out t (n * l .row) (l .row) i h)
     where
       inside : n * l .row + l .row ≤ length t
-      inside = let u = mul-le-mul-right {m = n + 1} {n = l .high + 1} (l .row) (omega arith) in omega (arith, row-next n (l .row))
+      inside = omega (arith, row-inside l n low)
 
   -- the blocks from the i-th on are as they were, so that one without a flag is empty
   pub block-empty : (t : List ℤ) (x n i k : ℕ) → RowFlagged l t x n → i < 2 * l .places → bitAt x i ≡ 0 → k < l .block → cellAt (marked t (n * l .row) (i * l .block)) (startAt l n i + k) ≡ mark
@@ -184,7 +184,6 @@ module _ (l : Layout) (laid : Laid l) where
     where
       cell : (n i k : ℕ) → n ≤ l .high → i < 2 * l .places → k < l .block → cellAt (marked t 0 (cellsIn l - 0)) (startAt l n i + k) ≡ mark
       cell n i k low hi hk =
-          let u = mul-le-mul-right {m = n + 1} {n = l .high + 1} (l .row) (omega arith) in
           let h = in-row l laid i k hi hk in
           let at : startAt l n i + k ≡ 0 + (startAt l n i + k) = omega arith in
-          rw at (marked-in t 0 (cellsIn l - 0) (startAt l n i + k) (omega (arith, row-next n (l .row))) (omega arith))
+          rw at (marked-in t 0 (cellsIn l - 0) (startAt l n i + k) (omega (arith, row-inside l n low)) (omega arith))

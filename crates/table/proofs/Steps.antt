@@ -2,13 +2,13 @@
 use Prim.Native.Nat.{ℕ, zero, suc, _+_, _-_, _*_, _/_, _%_, _^_, _≤_, _<_}
 use native.Mathlib.Omega.{arith}
 use native.Mathlib.Numerals.{add-one}
-use native.Mathlib.Nat.{mul-le-mul-right, suc-mul, mul-zero, zero-add, div-add-mod', mod-lt, div-lt-iff-lt-mul}
+use native.Mathlib.Nat.{mul-le-mul-right, mul-zero, zero-add, div-add-mod', mod-lt, div-lt-iff-lt-mul}
 use mathlib.Core.Path.{_≡_, refl, sym, ap, _∙_}
 use mathlib.Core.Bool.{Bool, true, false, cond}
 use mathlib.Core.List.{List, zipWith}
 use mathlib.Core.Logic.{inl, inr}
-use borrow.Author.Tests.{eq-eqb, ne-eqb, eqb-true, eqb-false, ltb-true, ltb-false}
-use lib.Dec.{eqb, ltb}
+use borrow.Author.Tests.{eq-eqb, ne-eqb, eqb-true, eqb-false}
+use lib.Dec.{eqb}
 use lib.ListN.{length, getD, set}
 use lib.IntN.{ℤ, natAbs}
 use lib.Signed.{ltZ}
@@ -24,8 +24,8 @@ use Rattle.pattern.specs.Clocks.{Clocks, clockAt, guardsHold, afterResets}
 use Rattle.cells.specs.declared.Layout.{Layout}
 use Rattle.cells.specs.Layout.{Laid, cellsIn}
 use Rattle.cells.specs.Index.{codeOf, clocksAt, ticked, Within, blockAt}
-use Rattle.cells.proofs.Digits.{four-is, ticked-within, coded, block-some}
-use Rattle.cells.proofs.Blocks.{row-next, row-fits, block-low, block-in}
+use Rattle.cells.proofs.Digits.{four-is, coded, block-some}
+use Rattle.cells.proofs.Blocks.{row-next, row-inside, blocks-inside, row-fits, block-low, block-in}
 use Rattle.table.specs.declared.View.{View}
 use Rattle.table.specs.declared.Sent.{Sent}
 use Rattle.table.specs.declared.report.Report.{Report}
@@ -33,7 +33,7 @@ use Rattle.steps.specs.Steps.{edgeIn}
 use Rattle.table.specs.Moves.{cellAt, marked, cleared, each, offered, moved, still, leaveOf, leavesOf, spreadOf, stayOf, sentOf, visitOf, visitsOf, passOf, gainAt, gainIn, placeOf, placesOf, rowOf, rowsOf, startsOf, begun, tickOf, openOf}
 use Rattle.table.specs.Reports.{toldPass, toldPlace}
 use Rattle.table.specs.Asks.{Sized, Known, Whole, Bounded, Sourced, Hop, Routed, Edges, Moving, Passing, Ready, Placing, Rows}
-use Rattle.table.proofs.Kept.{Kept, row-kept, marked-kept, pass-kept}
+use Rattle.table.proofs.Kept.{Kept, row-kept, marked-kept}
 
 -- ---- sizes
 
@@ -250,24 +250,13 @@ module _ (l : Layout) (w : Weighing) (g : ℤ) (n p : ℕ) (cs : Clocks) where
     unfolding visitOf
     visit-no m = rw m
 
--- cells that hold no worth are left out
-pub visits-skip : (l : Layout) (w : Weighing) (es : List Edge) (count : ℕ) (g : ℤ) (n p at k r : ℕ) (t : List ℤ) → k ≤ r → ((j : ℕ) → k ≤ j → j < r → ltZ mark (cellAt (visitsOf l w es count g n p at k t) (at + j)) ≡ false) → visitsOf l w es count g n p at k t ≡ visitsOf l w es count g n p at r t
+-- marks are left out
+pub visits-skip : (l : Layout) (w : Weighing) (es : List Edge) (count : ℕ) (g : ℤ) (n p at k r : ℕ) (t : List ℤ) → k ≤ r → ((j : ℕ) → k ≤ j → j < r → cellAt (visitsOf l w es count g n p at k t) (at + j) ≡ mark) → visitsOf l w es count g n p at k t ≡ visitsOf l w es count g n p at r t
 visits-skip l w es count g n p at k r t low h =
     let e : k + (r - k) ≡ r = omega arith in
     sym (each-skip (λ i. visitOf l w es count g n p at i (clocksAt (l .radices) i)) (r - k) k t
-    (λ j a b. visit-no l w g n p (clocksAt (l .radices) j) at j (visitsOf l w es count g n p at k t) es count (h j a (omega arith))))
+    (λ j a b. visit-no l w g n p (clocksAt (l .radices) j) at j (visitsOf l w es count g n p at k t) es count (rw (h j a (omega arith)) refl)))
     ∙ ap (λ (m : ℕ). visitsOf l w es count g n p at m t) e
-
--- one mark more is passed over
-pub marks-more : (t : List ℤ) (a k i : ℕ) → ((j : ℕ) → k ≤ j → j < i → ltZ mark (cellAt t (a + j)) ≡ false) → ltZ mark (cellAt t (a + i)) ≡ false → (j : ℕ) → k ≤ j → j < i + 1 → ltZ mark (cellAt t (a + j)) ≡ false
-marks-more t a k i h m j low high = by (ltb j i) refl
-  where
-    by : (b : Bool) → ltb j i ≡ b → ltZ mark (cellAt t (a + j)) ≡ false
-    by true e = h j low (ltb-true j i e)
-    by false e =
-        let y = ltb-false j i e in
-        let f : j ≡ i = omega arith in
-        rw f m
 
 pub pass-is : (l : Layout) (w : Weighing) (es : List Edge) (count : ℕ) (g : ℤ) (n p at : ℕ) (t u : List ℤ) → ltZ mark g ≡ true → u ≡ visitsOf l w es count g n p at (l .block) t → u ≡ passOf l w es count g n p at t
 unfolding passOf
@@ -391,8 +380,7 @@ starts-step size unit starts p t = rw (add-one p)
 
 pub first-fits : (l : Layout) (p : ℕ) → Laid l → p < l .places → p * l .block < l .row
 first-fits l p h low =
-    let up = mul-le-mul-right {m = suc p} {n = 2 * l .places} (l .block) (omega arith) in
-    omega (arith, up, suc-mul p (l .block), block-some l h, h .row-is)
+    omega (arith, blocks-inside l h (p + 1) (omega arith), row-next p (l .block), block-some l h)
 
 pub tick-is : (l : Layout) (w : Weighing) (v : View) (es : List Edge) (count : ℕ) (starts : List Bool) (t u x y : List ℤ) → u ≡ rowsOf l w v es count (l .high) t → x ≡ cleared u 0 (l .row) → y ≡ begun l w starts x → y ≡ tickOf l w v es count starts t
 unfolding tickOf
@@ -426,7 +414,6 @@ whole-from t l inside o =
     record {
       inside = inside;
       bounded = λ n i low h.
-          let f = mul-le-mul-right {m = n + 1} {n = l .high + 1} (l .row) (omega arith) in
-          let g = row-next n (l .row) in
+          let f = row-inside l n (omega arith) in
           sized-more (omega arith) (o (n * l .row + i) (omega arith));
     }

@@ -1,7 +1,6 @@
 -- The report's definitions: one step more of each loop, and what they read of a table.
 use Prim.Native.Nat.{ℕ, zero, suc, _+_, _-_, _*_, _≤_, _<_}
 use native.Mathlib.Omega.{arith}
-use native.Mathlib.Numerals.{add-one}
 use mathlib.Core.Path.{_≡_, refl, sym, ap, _∙_}
 use mathlib.Core.Bool.{Bool, true, false, cond, _&&_}
 use mathlib.Core.List.{List}
@@ -120,12 +119,12 @@ module _ (l : Layout) (w : Weighing) (es : List Edge) (count : ℕ) (tells : Lis
   unfolding toldVisit
   told-visit-no k cs r m = rw m
 
-  -- cells that hold no worth are left out
-  pub told-skip : (k m : ℕ) (r : Report) → k ≤ m → ((j : ℕ) → k ≤ j → j < m → ltZ mark (cellAt t (at + j)) ≡ false) → toldVisits l w es count tells g n p at k t r ≡ toldVisits l w es count tells g n p at m t r
+  -- marks are left out
+  pub told-skip : (k m : ℕ) (r : Report) → k ≤ m → ((j : ℕ) → k ≤ j → j < m → cellAt t (at + j) ≡ mark) → toldVisits l w es count tells g n p at k t r ≡ toldVisits l w es count tells g n p at m t r
   told-skip k m r low h =
       let e : k + (m - k) ≡ m = omega arith in
       sym (each-skip (λ i. toldVisit l w es count tells g n p at i (clocksAt (l .radices) i) t) (m - k) k r
-      (λ j a b. told-visit-no j (clocksAt (l .radices) j) (toldVisits l w es count tells g n p at k t r) (h j a (omega arith))))
+      (λ j a b. told-visit-no j (clocksAt (l .radices) j) (toldVisits l w es count tells g n p at k t r) (rw (h j a (omega arith)) refl)))
       ∙ ap (λ (i : ℕ). toldVisits l w es count tells g n p at i t r) e
 
   pub told-pass : (r q : Report) → ltZ mark g ≡ true → q ≡ toldVisits l w es count tells g n p at (l .block) t r → q ≡ toldPass l w es count tells g n p at t r

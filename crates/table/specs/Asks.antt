@@ -1,7 +1,7 @@
 -- What the functions ask of a layout, a view, edges and a table.
 use Prim.Native.Nat.{ℕ, _+_, _*_, _^_, _≤_, _<_}
 use mathlib.Core.Path.{_≡_}
-use mathlib.Core.Bool.{true, false}
+use mathlib.Core.Bool.{true}
 use mathlib.Core.List.{List}
 use mathlib.Core.Logic.{_⊎_}
 use lib.ListN.{length, getD}
@@ -41,7 +41,7 @@ pub record Whole (t : List ℤ) (l : Layout) : Type 0 where
   pub inside : cellsIn l ≤ length t
   pub bounded : (n i : ℕ) → n ≤ l .high → i < l .row → Sized (32760000000 + n * 8000000) (cellAt t (n * l .row + i))
 
--- What one tick asks.
+-- What one tick asks of the table, the view and the edges.
 pub record Ticking (t : List ℤ) (l : Layout) (v : View) (es : List Edge) (count : ℕ) : Type 0 where
   pub known : Known l v es count
   pub whole : Whole t l
@@ -51,23 +51,7 @@ pub record Filed (t : List ℤ) (l : Layout) : Type 0 where
   pub laid : Laid l
   pub inside : cellsIn l ≤ length t
 
--- ---- within a tick
-
--- The n cells from a hold only marks.
-abbrev pub Empty : List ℤ → (a n : ℕ) → Type 0
-Empty t a n = (k : ℕ) → k < n → cellAt t (a + k) ≡ mark
-
--- The n cells from a hold marks or worths that can grow.
-pub record Bounded (t : List ℤ) (a n : ℕ) : Type 0 where
-  pub at : (k : ℕ) → k < n → Sized (2 ^ 60) (cellAt t (a + k))
-
--- r is the first cell from k on of the block at `a`, of m cells, that holds a worth, or m.
-pub record Occupied (t : List ℤ) (a m k : ℕ) (r : Spot) : Type 0 where
-  pub above : k ≤ r .cell
-  pub below : r .cell ≤ m
-  pub skips : (j : ℕ) → k ≤ j → j < r .cell → ltZ mark (cellAt t (a + j)) ≡ false
-  pub holds : r .cell < m → ltZ mark (cellAt t (a + r .cell)) ≡ true
-  pub is : r .cell < m → r .worth ≡ cellAt t (a + r .cell)
+-- ---- the edges, once a piece
 
 -- Each edge leaves one of 16 places.
 pub record Sourced (es : List Edge) (count : ℕ) : Type 0 where
@@ -90,6 +74,27 @@ pub record Linked (es : List Edge) (count : ℕ) (links : List ℕ) : Type 0 whe
 pub record Routed (es : List Edge) (count : ℕ) (links steps : List ℕ) : Type 0 where
   pub linked : Linked es count links
   pub made : Steps es count steps
+
+-- ---- the worths of a block
+
+-- r is the first cell from k on of the block at `a`, of m cells, that holds a worth, or m with the mark.
+pub record Occupied (t : List ℤ) (a m k : ℕ) (r : Spot) : Type 0 where
+  pub above : k ≤ r .cell
+  pub below : r .cell ≤ m
+  pub skips : (j : ℕ) → k ≤ j → j < r .cell → cellAt t (a + j) ≡ mark
+  pub holds : r .cell < m → ltZ mark (cellAt t (a + r .cell)) ≡ true
+  pub is : r .cell < m → r .worth ≡ cellAt t (a + r .cell)
+  pub none : r .cell ≡ m → r .worth ≡ mark
+
+-- ---- within a tick
+
+-- The n cells from a hold only marks.
+abbrev pub Empty : List ℤ → (a n : ℕ) → Type 0
+Empty t a n = (k : ℕ) → k < n → cellAt t (a + k) ≡ mark
+
+-- The n cells from a hold marks or worths that can grow.
+pub record Bounded (t : List ℤ) (a n : ℕ) : Type 0 where
+  pub at : (k : ℕ) → k < n → Sized (2 ^ 60) (cellAt t (a + k))
 
 -- The edges lead into the layout, and can be gone through.
 pub record Edges (l : Layout) (es : List Edge) (count : ℕ) (links steps : List ℕ) : Type 0 where

@@ -1,7 +1,7 @@
 -- One tick over one table, in place, loop by loop. That this is document 01's rule (a cell holds the best over all moves
 -- into it of the moved worth) is a theorem of the crate table_laws.
 use Prim.Native.Nat.{ℕ, zero, suc, _+_, _-_, _*_}
-use mathlib.Core.List.{List, []}
+use mathlib.Core.List.{List}
 use mathlib.Core.Bool.{Bool, false, cond}
 use lib.Dec.{eqb}
 use lib.ListN.{getD, set, replicate}

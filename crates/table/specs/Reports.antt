@@ -3,7 +3,7 @@
 -- the report of the table one tick later is a theorem of the crate table_laws.
 use Prim.Native.Nat.{ℕ, zero, suc, _+_}
 use mathlib.Core.List.{List}
-use mathlib.Core.Bool.{Bool, true, false, cond, _&&_}
+use mathlib.Core.Bool.{Bool, false, cond, _&&_}
 use lib.Dec.{eqb, ltb}
 use lib.ListN.{getD, replicate}
 use lib.IntN.{ℤ, pos}

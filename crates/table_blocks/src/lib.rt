@@ -20,8 +20,8 @@ ghost use Rattle.table.specs.Reports.{toldLeaves, toldVisits, toldPass};
 ghost use Rattle.flags.specs.Flags.{flagAt, Flagged, IsRaised, Grown};
 ghost use Rattle.table.specs.Asks.{Edges, Moving, Passing, Occupied, Empty};
 
-// The first occupied cell of the block at `at` from cell k on: each cell is looked at once.
-fn occupied(table: &[i64], at: usize, k: usize, size: usize) -> Spot
+// The first occupied cell of the block at `at` from cell k on. Each cell up to it is looked at once.
+pub fn occupied(table: &[i64], at: usize, k: usize, size: usize) -> Spot
     requires { ⌜ (at + size ≤ length (now table)) × (k ≤ size) ⌝ }
     ensures { λ r. ⌜ Occupied (now (table .entry)) at size k r ⌝ }
 {

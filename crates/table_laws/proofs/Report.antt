@@ -7,8 +7,8 @@ use mathlib.Core.Path.{_≡_, refl, sym, ap, subst, _∙_}
 use mathlib.Core.Bool.{Bool, true, false, cond, _&&_}
 use mathlib.Core.Logic.{_⊎_, inl, inr, ⊎-elim}
 use mathlib.Core.Option.{none, some, Option·some-injective}
-use mathlib.Core.List.{List, List·Memᴰ}
-use borrow.Author.Tests.{eqb-true, eqb-false, eq-eqb, ltb-true, ltb-false, lt-ltb, le-ltb}
+use mathlib.Core.List.{List}
+use borrow.Author.Tests.{eqb-true, eq-eqb, ltb-true, ltb-false, lt-ltb, le-ltb}
 use lib.Dec.{T, eqb, ltb}
 use lib.ListN.{getD, replicate}
 use lib.IntN.{ℤ}
@@ -29,7 +29,7 @@ use Rattle.cells.specs.declared.Layout.{Layout}
 use Rattle.cells.specs.Layout.{cellsIn}
 use Rattle.cells.specs.Index.{clocksAt, ticked, blockAt, lenAt}
 use Rattle.cells.proofs.Blocks.{row-next}
-use Rattle.walks.specs.Automaton.{Automaton, TickView, State, Same}
+use Rattle.walks.specs.Automaton.{Automaton, TickView, State}
 use Rattle.walks.specs.Tables.{Table, next}
 use Rattle.walks.specs.Reports.{report}
 use Rattle.walks.proofs.Offers.{Offered}

@@ -5,9 +5,7 @@ use cells::block_at;
 use flags::has_bit;
 use flags::raise_starts;
 use pattern::Edge;
-use steps::steps_of;
 use table::View;
-use table::links_of;
 use table::report::Report;
 use table::report::no_report;
 use table_blocks::pass;
@@ -317,30 +315,19 @@ pub fn tick(
     v: View,
     edges: [Edge; 32],
     count: usize,
+    links: &[u8; 48],
+    steps: &[usize; 416],
     starts: [bool; 16],
     ends: [bool; 16],
     low: usize,
 ) -> Report
-    requires { ⌜ (Ticking (now table) l v edges count) × (Flagged l (now table) (now flags)) ⌝ }
+    requires { ⌜ (Ticking (now table) l v edges count) × (Routed edges count (now links) (now steps))
+        × (Flagged l (now table) (now flags)) ⌝ }
     ensures { λ q. ⌜ q ≡ toldOf l w v edges count ends low (now (table .entry)) ⌝ }
     ensures { λ _. ⌜ now (table .exit) ≡ tickOf l w v edges count starts (now (table .entry)) ⌝ }
     ensures { λ _. ⌜ Flagged l (now (table .exit)) (now (flags .exit)) ⌝ }
 {
-    let links = links_of(edges, count);
-    let steps = steps_of(edges, count);
-    let told = rows(
-        table,
-        flags,
-        l,
-        w,
-        v,
-        edges,
-        count,
-        &links,
-        &steps,
-        ends,
-        low,
-    );
+    let told = rows(table, flags, l, w, v, edges, count, links, steps, ends, low);
     wipe_row(table, flags, l, 0);
     begin(table, l, w, starts);
     raise_starts(flags, starts, l.places);

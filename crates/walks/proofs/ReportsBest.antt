@@ -1,5 +1,5 @@
 -- Reports speak of runs: what is reached with held clocks where a run may end is a run with plain clocks, and back.
-use mathlib.Core.Path.{_≡_, sym, subst}
+use mathlib.Core.Path.{sym, subst}
 use mathlib.Core.Option.{Option, none, some}
 use mathlib.Core.List.{List, List·Memᴰ}
 use Prim.Native.Nat.{ℕ, _≤_}

@@ -1,37 +1,30 @@
 -- A chunk of the present piece: what is fed, what is put, and where the program stands then.
-use Prim.Native.Nat.{ℕ, zero, suc, _+_, _-_, _≤_, _<_}
+use Prim.Native.Nat.{ℕ, _+_, _-_, _≤_, _<_}
 use native.Mathlib.Omega.{arith}
-use mathlib.Core.Path.{_≡_, refl, sym, ap, subst, _∙_}
-use mathlib.Core.Logic.{_⊎_, inl, inr, ⊎-elim}
+use mathlib.Core.Path.{_≡_, sym, ap, subst, _∙_}
+use mathlib.Core.Logic.{_⊎_, inr, ⊎-elim}
 use mathlib.Core.List.{List, [], _∷_, _++_, append-assoc, map-append, map}
-use mathlib.Core.Option.{none, some}
-use mathlib.Core.Bool.{Bool, true, false, cond, _&&_}
-use borrow.Author.Tests.{eqb-true, ltb-true, ltb-false, lt-ltb, le-ltb, ne-eqb}
-use lib.Dec.{eqb, leb, ltb}
-use lib.ListN.{length, take, getD, length-append}
+use mathlib.Core.Option.{some}
+use mathlib.Core.Bool.{true, cond}
+use lib.ListN.{length, take, getD}
 use lib.IntN.{ℤ, pos}
 use Rattle.pattern.specs.declared.Pattern.{Pattern}
-use Rattle.pattern.specs.Sound.{soundOf}
-use Rattle.pattern.specs.Cells.{cellsNeeded}
 use Rattle.pattern.proofs.SoundLaws as pattern
 use Rattle.pattern_text.specs.Bytes.{Bytes}
 use Rattle.pattern_text.specs.Text.{pad}
 use Rattle.pattern_text.proofs.Slots.{take-pad}
 use Rattle.record.specs.Record.{Book, bookOf, sampleAt, total, recordSound}
-use Rattle.record.proofs.RecordLaws.{parts, total-append, lasts-at}
-use Rattle.record.proofs.ListLaws.{getD-any}
+use Rattle.record.proofs.RecordLaws.{parts, total-append}
 use Rattle.record_text.specs.Piece.{RawPiece, valuesIn}
-use Rattle.record_text.specs.Text.{renderRecord, readRecord, durationsOf, valuesOf}
-use Rattle.record_read.specs.Line.{pieceAt}
-use Rattle.record_read.proofs.Theorems.{pieces-read, pieces-left}
+use Rattle.record_text.specs.Text.{durationsOf, valuesOf}
 use Rattle.monitor.specs.declared.State.{State}
 use Rattle.monitor.specs.Cells.{written}
 use Rattle.monitor.specs.Open.{marks}
 use Rattle.monitor.specs.Feed.{Call, feedState, feedFirst, feedSecond, feedScores, feedLengths}
 use Rattle.monitor.proofs.Written.{written-length, marks-length, written-again, marks-again}
 use Rattle.best.specs.declared.Search.{Search}
-use Rattle.best.specs.Best.{chosenTo, chosenOf, scoreAt, lengthAt}
-use Rattle.best.specs.Search.{tableTo, stateTo, chosenIn, chosenPast, chunkOf, SearchedTo}
+use Rattle.best.specs.Best.{chosenTo, chosenOf}
+use Rattle.best.specs.Search.{tableTo, stateTo, chosenIn, chosenPast, chunkOf}
 use Rattle.best.proofs.Ends.{report-inside}
 use Rattle.best.proofs.Pieces.{book-long}
 use Rattle.best.proofs.Turn.{Turned, fed, sample-fine}
@@ -39,7 +32,7 @@ use Rattle.watch_text.specs.Shown.{rowsFrom, rowsPast, bestText}
 use Rattle.watch_text.proofs.Rows.{rows-split, past-are}
 use Rattle.watch_steps.specs.declared.Cursor.{Cursor}
 use Rattle.watch_steps.specs.Watch.{bookOfText}
-use Rattle.watch_steps.specs.Steps.{rowsDue, Inside, Position, cursorAt, movedOn, Underway}
+use Rattle.watch_steps.specs.Steps.{rowsDue, Inside, Underway}
 use Rattle.watch_steps.proofs.Pieces.{book-is, record-sound, inside, duration-is, sample-is, start-is, ticks-more}
 
 module _ (p : Pattern) (t : Bytes) (k : Cursor) (s : Search) (first second : List ℤ) (u : Underway p t k s first second) where

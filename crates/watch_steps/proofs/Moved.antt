@@ -4,7 +4,7 @@ use native.Mathlib.Omega.{arith}
 use mathlib.Core.Path.{_≡_, refl, sym, ap, subst, _∙_}
 use mathlib.Core.Logic.{_⊎_, inl, inr}
 use mathlib.Core.List.{List, [], _∷_, _++_, append-assoc}
-use mathlib.Core.Option.{Option, none, some}
+use mathlib.Core.Option.{none, some}
 use mathlib.Core.Bool.{Bool, true, false, cond, _&&_}
 use borrow.Author.Tests.{eqb-true, eqb-false, ltb-true, ltb-false}
 use lib.Dec.{eqb, ltb}
@@ -26,7 +26,7 @@ use Rattle.best.specs.Best.{chosenTo, chosenOf}
 use Rattle.best.specs.Search.{chosenIn}
 use Rattle.watch_text.specs.Shown.{rowsFrom, bestText}
 use Rattle.watch_steps.specs.declared.Cursor.{Cursor}
-use Rattle.watch_steps.specs.Steps.{rowsDue, Inside, Position, cursorAt, movedOn, Underway}
+use Rattle.watch_steps.specs.Steps.{rowsDue, Position, cursorAt, movedOn, Underway}
 use Rattle.watch_steps.proofs.Pieces.{record-sound, inside, duration-is, ticks-more}
 use Rattle.watch_steps.proofs.Chunks.{B, long, ticks-read}
 

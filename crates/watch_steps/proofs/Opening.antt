@@ -1,9 +1,9 @@
 -- From both texts to the start.
-use Prim.Native.Nat.{ℕ, zero, suc, _+_, _-_, _≤_, _<_}
+use Prim.Native.Nat.{ℕ, zero, _+_, _-_}
 use native.Mathlib.Omega.{arith}
 use mathlib.Core.Path.{_≡_, refl, sym, ap, subst, _∙_}
-use mathlib.Core.Logic.{_⊎_, inl, inr}
-use mathlib.Core.List.{List, [], _∷_, _++_}
+use mathlib.Core.Logic.{inl}
+use mathlib.Core.List.{List, [], _++_}
 use mathlib.Core.Option.{Option, none, some, Option·none-ne-some}
 use mathlib.Core.Bool.{Bool, true, false, not, cond, _||_}
 use lib.Dec.{ltb}
@@ -15,30 +15,29 @@ use Rattle.pattern.specs.declared.Refusal.the-variants.{TextTooLong, BrokenForm
 use Rattle.pattern.specs.Sound.{soundOf}
 use Rattle.pattern.specs.Cells.{cellsNeeded}
 use Rattle.pattern_text.specs.Bytes.{Bytes}
-use Rattle.pattern_text.specs.Form.{many, writeMany, _◂_}
+use Rattle.pattern_text.specs.Form.{many, writeMany}
 use Rattle.pattern_text.specs.Text.{Answer, accepted, refused}
 use Rattle.pattern_read.specs.declared.Outcome.the-variants as outcome
 use Rattle.pattern_read.specs.declared.Outcome.the-variants.{Accepted}
 use Rattle.pattern_read.specs.Reading.{readingOf}
-use Rattle.record.specs.Record.{Book, bookOf, total, recordSound}
+use Rattle.record.specs.Record.{Book, bookOf, total}
 use Rattle.record_text.specs.Piece.{RawPiece}
 use Rattle.record_text.specs.Text.{recordForm, renderRecord, readRecord, durationsOf, valuesOf, piecesRefusal, recordRefusal}
 use Rattle.record_read.specs.declared.Checked.the-variants as checked
 use Rattle.record_read.specs.declared.Checked.the-variants.{Sound}
 use Rattle.record_read.specs.Check.{checkedOf}
-use Rattle.monitor.specs.declared.State.{State}
 use Rattle.monitor.specs.Cells.{written}
 use Rattle.monitor.specs.State.{noTicks}
-use Rattle.monitor.specs.Open.{unlessRefused, tableTooShort, openRefusal, openState, openFirst, openSecond}
+use Rattle.monitor.specs.Open.{unlessRefused, openRefusal, openFirst, openSecond}
 use Rattle.best.specs.declared.Search.{Search}
 use Rattle.best.specs.Best.{bestRefusal, chosenOf}
 use Rattle.best.specs.Search.{chosenBy, Fit, SearchedTo, tableTo}
 use Rattle.best.proofs.Whole.{fit, second-open}
 use Rattle.watch_text.specs.Shown.{heading, rowsFrom, bestText, shownFor}
 use Rattle.watch_steps.specs.declared.Watch.{Watch}
-use Rattle.watch_steps.specs.declared.Stage.the-variants.{Refused, Heading}
-use Rattle.watch_steps.specs.Watch.{bookOfText, tablesRefusal, orCause, unlessCause, answeredWith}
-use Rattle.watch_steps.specs.Steps.{rowsDue, dueFor, Position, Underway, StandingAt, Standing, startAt, stageBy, openedWatch}
+use Rattle.watch_steps.specs.declared.Stage.the-variants.{Refused}
+use Rattle.watch_steps.specs.Watch.{bookOfText, tablesRefusal, answeredWith}
+use Rattle.watch_steps.specs.Steps.{rowsDue, dueFor, Underway, StandingAt, Standing, stageBy, openedWatch}
 use Rattle.watch_steps.proofs.Pieces.{book-is, record-sound}
 
 -- a text that is not refused is that of some pieces

@@ -1,20 +1,18 @@
 -- A piece of a text that is not refused, as the record's slices have it.
-use Prim.Native.Nat.{ℕ, zero, suc, _+_, _-_, _≤_, _<_}
+use Prim.Native.Nat.{ℕ, suc, _+_, _-_, _<_}
 use native.Mathlib.Omega.{arith}
-use mathlib.Core.Path.{_≡_, refl, sym, ap, subst, _∙_}
-use mathlib.Core.List.{List, [], _∷_, _++_, map, append-assoc, map-append}
+use mathlib.Core.Path.{_≡_, refl, sym, ap, _∙_}
+use mathlib.Core.List.{List, [], _∷_, _++_, map, map-append}
 use mathlib.Core.Option.{Option, none, some, Option·none-ne-some}
-use mathlib.Core.Bool.{Bool, true, false, cond, _&&_}
+use mathlib.Core.Bool.{Bool, true, false, cond}
 use lib.Dec.{ltb}
 use lib.ListN.{length, take, drop, getD, length-append, length-map}
 use lib.Seq.{take-at, drop-at}
-use lib.IntN.{ℤ}
-use Rattle.pattern.specs.declared.Pattern.{Pattern}
 use Rattle.pattern.specs.declared.Refusal.{Refusal}
 use Rattle.pattern.specs.declared.Refusal.the-variants.{TextTooLong, BrokenRecord}
 use Rattle.pattern.proofs.SoundLaws.{both}
 use Rattle.pattern_text.specs.Bytes.{Bytes}
-use Rattle.record.specs.Record.{Piece, Book, piecesOf, bookOf, sampleAt, total, recordSound}
+use Rattle.record.specs.Record.{Piece, piecesOf, bookOf, sampleAt, total, recordSound}
 use Rattle.record.proofs.RecordLaws.{piece-at, total-append}
 use Rattle.record_text.specs.Piece.{RawPiece, valuesIn}
 use Rattle.record_text.specs.Text.{readRecord, durationsOf, valuesOf, countsFit, piecesSound, piecesRefusal, recordRefusal}

@@ -1,5 +1,5 @@
 -- All steps together: step by step, the bytes printed and those still due are what is to be printed.
-use Prim.Native.Nat.{ℕ, suc, _+_, _-_, _≤_, _<_}
+use Prim.Native.Nat.{ℕ, _+_, _-_, _≤_, _<_}
 use native.Mathlib.Omega.{arith}
 use mathlib.Core.Path.{_≡_, refl, sym, ap, subst, _∙_}
 use mathlib.Core.List.{List, [], _∷_, _++_, append-assoc, append-nil}
@@ -12,23 +12,20 @@ use Rattle.pattern.specs.declared.Pattern.{Pattern}
 use Rattle.pattern.specs.declared.Refusal.{Refusal}
 use Rattle.pattern.specs.declared.Refusal.the-variants.{TableTooShort}
 use Rattle.pattern.specs.Sound.{soundOf}
-use Rattle.pattern.specs.Refusal.{numberOf}
 use Rattle.pattern.specs.Cells.{cellsNeeded}
 use Rattle.pattern_text.specs.Bytes.{Bytes, bytes}
 use Rattle.pattern_text.specs.Numeral.{decimal, decimalF}
-use Rattle.pattern_text.specs.Text.{Answer, accepted, refused, readOf}
+use Rattle.pattern_text.specs.Text.{Answer, refused}
 use Rattle.pattern_text.proofs.Theorems.{sound-means-read}
 use Rattle.record.specs.Record.{Book}
-use Rattle.record_text.specs.Text.{recordRefusal}
 use Rattle.watch_text.specs.Shown.{feed, refusedText, shownFor}
 use Rattle.watch_text.specs.Claims.{Shows}
 use Rattle.watch_text.proofs.Right.{shown-right}
 use Rattle.watch_steps.specs.declared.Stage.{Stage}
 use Rattle.watch_steps.specs.declared.Stage.the-variants.{Refused, Heading, Rows, Done}
-use Rattle.watch_steps.specs.declared.Watch.{Watch}
 use Rattle.watch_steps.specs.Watch.{bookOfText, tablesRefusal, orCause, unlessCause, answeredWith, watchOf}
-use Rattle.watch_steps.specs.Steps.{isDone, dueAt, dueFor, stepsAt, stepsLeft, Standing, Stepped}
-use Rattle.watch_steps.specs.Claims.{Stand, Started, Made, stands, Follow, leadTo, printed, StepsPrint, PrintedSoFar, StepsEnd, LinesRight, RefusalsAlone}
+use Rattle.watch_steps.specs.Steps.{isDone, dueAt, dueFor, stepsAt, stepsLeft, Standing}
+use Rattle.watch_steps.specs.Claims.{Stand, Made, stands, Follow, leadTo, printed, StepsPrint, PrintedSoFar, StepsEnd, LinesRight, RefusalsAlone}
 
 -- ---- the steps
 

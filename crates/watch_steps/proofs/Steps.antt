@@ -1,8 +1,8 @@
 -- From what a step does to what it means: its bytes are the first of those due.
-use Prim.Native.Nat.{ℕ, zero, suc, _+_, _-_, _*_, _≤_, _<_, min}
+use Prim.Native.Nat.{ℕ, _+_, _-_, _≤_, _<_, min}
 use native.Mathlib.Omega.{arith}
-use mathlib.Core.Path.{_≡_, refl, sym, ap, subst, _∙_}
-use mathlib.Core.List.{List, [], _∷_, _++_, append-nil}
+use mathlib.Core.Path.{_≡_, sym, ap, subst, _∙_}
+use mathlib.Core.List.{List, _++_, append-nil}
 use lib.ListN.{length, take, getD}
 use lib.Seq.{take-all}
 use lib.IntN.{ℤ}
@@ -11,7 +11,6 @@ use Rattle.pattern_text.specs.Bytes.{Bytes}
 use Rattle.text_put.specs.Put.{Put}
 use Rattle.monitor.specs.Feed.{feedLengths}
 use Rattle.best.specs.declared.Search.{Search}
-use Rattle.best.specs.Best.{chosenOf}
 use Rattle.best.specs.Search.{chosenIn}
 use Rattle.best.proofs.Ends.{begins-inside}
 use Rattle.pattern.specs.declared.Refusal.{Refusal}
@@ -22,9 +21,9 @@ use Rattle.watch_steps.specs.declared.Cursor.{Cursor}
 use Rattle.watch_steps.specs.declared.Watch.{Watch}
 use Rattle.watch_steps.specs.declared.Step.{Step}
 use Rattle.watch_steps.specs.Watch.{bookOfText}
-use Rattle.watch_steps.specs.Steps.{rowsDue, dueAt, dueFor, stepsAt, stepsLeft, movedOn, chunk, Underway, Standing, StandingAt, Stepped, ChunkStepped, LineStepped}
+use Rattle.watch_steps.specs.Steps.{rowsDue, dueAt, dueFor, stepsAt, stepsLeft, chunk, Underway, Standing, StandingAt, Stepped, ChunkStepped, LineStepped}
 use Rattle.watch_steps.proofs.Chunks.{room, room-on, lengths-low, due-on, ticks-on, underway-on}
-use Rattle.watch_steps.proofs.Moved.{moved, moved-end, all-fed, last-due, last-choice}
+use Rattle.watch_steps.proofs.Moved.{last-due, last-choice}
 
 -- where there is room, all bytes stand at the front
 pub put-whole : (o o′ : Bytes) (n : ℕ) (xs : Bytes) → Put o o′ 0 n xs → length xs ≤ length o → (take n o′ ≡ xs) × (n ≤ length o′)

@@ -1,6 +1,6 @@
 -- What is proved of all steps together, and of what they print. The proofs are in proofs/Printed.antt and
 -- proofs/Buffers.antt.
-use Prim.Native.Nat.{ℕ, _+_, _≤_, _<_}
+use Prim.Native.Nat.{_+_, _≤_, _<_}
 use mathlib.Core.Path.{_≡_}
 use mathlib.Core.List.{List, [], _∷_, _++_}
 use mathlib.Core.Option.{none, some}

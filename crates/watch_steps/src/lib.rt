@@ -18,17 +18,15 @@ use watch_text::put_heading;
 use watch_text::put_refused;
 ghost use mathlib.Core.Path.{_≡_};
 ghost use mathlib.Core.Bool.{true, false};
-ghost use mathlib.Core.List.{_++_};
-ghost use Prim.Native.Nat.{ℕ, suc, _+_, _-_, _*_, _≤_, _<_, min};
-ghost use lib.ListN.{length, take, getD};
+ghost use Prim.Native.Nat.{ℕ, _+_, _-_, _≤_, _<_, min};
+ghost use lib.ListN.{length, getD};
 ghost use Rattle.pattern.specs.Sound.{soundOf};
 ghost use Rattle.pattern_text.specs.Text.{accepted};
 ghost use Rattle.monitor.specs.State.{noTicks};
 ghost use Rattle.monitor.specs.Open.{openFirst, openSecond};
-ghost use Rattle.monitor.specs.Feed.{feedState, feedFirst, feedSecond, feedScores, feedLengths};
-ghost use Rattle.best.specs.Search.{chosenIn, chosenPast, chunkOf};
-ghost use Rattle.text_put.specs.Put.{Put};
-ghost use Rattle.watch_text.specs.Shown.{refusedText, heading, rowsPast, bestText};
+ghost use Rattle.monitor.specs.Feed.{feedLengths};
+ghost use Rattle.best.specs.Search.{chosenIn};
+ghost use Rattle.watch_text.specs.Shown.{refusedText, heading, bestText};
 ghost use Rattle.watch_steps.specs.Watch.{bookOfText, answeredWith, watchOf};
 ghost use Rattle.watch_steps.specs.Steps.{
   isDone,

@@ -22,7 +22,7 @@ use Rattle.best.specs.Claims.{RunFrom, AnswerSays}
 use Rattle.best.proofs.Ends.{best-of-record}
 use Rattle.best.proofs.Answer.{from-begin, by-length, ends-inside, said}
 use Rattle.watch_text.specs.Shown.{heading, rowText, rowFor, rowsFrom, bestText, shownFor}
-use Rattle.watch_text.specs.Claims.{Row, rowLine, rowLines, lastLine, RowRight, Rising, RowsRight, LastRight, Shows, ShownRight}
+use Rattle.watch_text.specs.Claims.{Row, rowLine, rowLines, lastLine, RowRight, Rising, LastRight, Shows, ShownRight}
 
 -- a report's line, without a run and with one
 no-line : (end : ℕ) (s : ℤ) (len : ℕ) → len ≡ 0 → rowFor end s len ≡ []

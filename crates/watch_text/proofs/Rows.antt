@@ -1,12 +1,11 @@
 -- How the lines follow one another.
-use Prim.Native.Nat.{ℕ, zero, suc, _+_, _-_, _≤_, _<_}
+use Prim.Native.Nat.{ℕ, zero, suc, _+_, _-_, _<_}
 use native.Mathlib.Omega.{arith}
 use mathlib.Core.Path.{_≡_, refl, sym, ap, _∙_}
-use mathlib.Core.List.{List, [], _∷_, _++_, append-assoc, append-nil}
+use mathlib.Core.List.{List, _++_, append-assoc, append-nil}
 use lib.ListN.{length, getD}
 use lib.IntN.{ℤ, pos}
 use Rattle.pattern.specs.declared.Pattern.{Pattern}
-use Rattle.pattern_text.specs.Bytes.{Bytes}
 use Rattle.record.specs.Record.{Book}
 use Rattle.best.specs.Best.{scoreAt, lengthAt}
 use Rattle.watch_text.specs.Shown.{rowFor, rowsFrom, rowsPast}

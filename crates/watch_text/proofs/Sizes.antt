@@ -1,17 +1,15 @@
 -- How long the lines are: a number of 64 bits has at most 20 digits, and a line at most 64 bytes.
 use Prim.Native.Nat.{ℕ, suc, _+_, _*_, _-_, _^_, _≤_, _<_}
 use native.Mathlib.Omega.{arith}
-use mathlib.Core.Path.{_≡_, refl, sym, ap, _∙_}
-use mathlib.Core.List.{List, [], _∷_, _++_}
-use mathlib.Core.Bool.{Bool, true, false, cond}
-use lib.Dec.{eqb}
+use mathlib.Core.Path.{ap}
+use mathlib.Core.List.{List, _++_}
 use lib.ListN.{length, getD, length-append}
 use lib.IntN.{ℤ, pos, negsuc}
 use mir.Syntax.{w64}
 use mir.Val.{SFits}
 use Rattle.pattern.specs.declared.Refusal.{Refusal}
 use Rattle.pattern.specs.Refusal.{numberOf}
-use Rattle.pattern_text.specs.Bytes.{Bytes, bytes}
+use Rattle.pattern_text.specs.Bytes.{bytes}
 use Rattle.pattern_text.specs.Numeral.{decimal}
 use Rattle.pattern_text.specs.Form.{writeℤ}
 use Rattle.pattern_text.proofs.Size.{few-digits}

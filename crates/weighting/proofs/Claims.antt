@@ -1,6 +1,4 @@
 -- The claims of specs/Claims, from the laws.
-use mathlib.Core.Option.{none, some}
-use mathlib.Core.Path.{ap}
 use Rattle.weighting.specs.Claims.{BestOfList, ShortestMeans, CombinedByParts, CellsKeep}
 use Rattle.weighting.proofs.Best.{bestOf-best}
 use Rattle.weighting.proofs.Shortest.{shortest-in, shortest-out}

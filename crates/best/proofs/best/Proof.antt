@@ -1,9 +1,8 @@
 -- Refused for a cause, or the choice told.
-use mathlib.Core.Path.{_≡_, refl, sym, ap, _∙_}
+use mathlib.Core.Path.{_≡_, sym, ap, _∙_}
 use mathlib.Core.Option.{none, some}
 use borrow.Author.Needs.{needs}
 use lib.ListN.{length}
-use Rattle.pattern.specs.Sound.{soundOf}
 use Rattle.record.specs.Record.{bookOf}
 use Rattle.monitor.proofs.Demand.{open-parts}
 use Rattle.feed_checks.proofs.Accepted.{done, refused-for}

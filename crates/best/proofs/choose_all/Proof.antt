@@ -1,14 +1,13 @@
 -- The reports are looked at one by one.
-use Prim.Native.Nat.{ℕ, suc, _+_, _≤_, _-_, zero-le}
+use Prim.Native.Nat.{_+_, _≤_, _-_, zero-le}
 use native.Mathlib.Omega.{arith}
 use native.Mathlib.Numerals.{add-one}
-use mathlib.Core.Path.{_≡_, refl, sym, ap, _∙_}
+use mathlib.Core.Path.{_≡_, refl, ap, _∙_}
 use borrow.Author.Needs.{needs}
 use lib.IntN.{pos}
 use lib.ListN.{length, getD}
 use mir.Syntax.{w64}
 use mir.Val.{toZ, ofZ}
-use mir.Facts.{toZ-ofZ}
 use Rattle.best.specs.Best.{chosenWith}
 use Rattle.best.specs.Search.{chosenIn, chosenPast}
 use Rattle.best.proofs.choose_all.Statement.{statement}

@@ -1,10 +1,9 @@
 -- 7, 8, and then what an opening is refused for.
-use mathlib.Core.Path.{_≡_, refl, sym, ap, _∙_}
+use mathlib.Core.Path.{_≡_, sym, _∙_}
 use mathlib.Core.Bool.{true, false}
 use borrow.Author.Needs.{needs}
 use borrow.Author.Tests.{not-true, not-false}
 use Rattle.pattern.specs.Sound.{soundOf}
-use Rattle.record.specs.Record.{recordSound}
 use Rattle.monitor.specs.Open.{openRefusal}
 use Rattle.best.specs.Best.{bestRefusal}
 use Rattle.best.proofs.refusal.Statement.{statement}

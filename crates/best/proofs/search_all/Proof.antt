@@ -1,6 +1,5 @@
 -- The choice after all ticks is the record's.
-use Prim.Native.Nat.{ℕ}
-use mathlib.Core.Path.{_≡_, refl, sym, ap, _∙_}
+use mathlib.Core.Path.{refl, sym, ap, _∙_}
 use borrow.Author.Needs.{needs}
 use Rattle.monitor.specs.declared.After.{After}
 use Rattle.record.specs.Record.{bookOf}

@@ -1,6 +1,6 @@
-use Prim.Native.Nat.{ℕ, zero, suc, _+_, _*_, _-_, _≤_, _<_}
+use Prim.Native.Nat.{_-_}
 use native.Mathlib.Omega.{arith}
-use mathlib.Core.Path.{_≡_, refl, sym, ap, subst, _∙_}
+use mathlib.Core.Path.{ap, _∙_}
 use mathlib.Core.Bool.{Bool}
 use borrow.Author.Needs.{needs}
 use lib.ListN.{length}
@@ -20,7 +20,7 @@ is-new-requires : tie.Need-is-new-requires
 is-new-requires c κs = let few = parts (c .before .before .args .p) (told (c .before .before) .sound) .fewChannels in omega arith
 
 tell-piece-requires : tie.Need-tell-piece-requires
-tell-piece-requires c κs = let f = told (c .before .before .before .before .before .before .before) in (f .sound, f .piece .values, f .tables .first, f .cells, f .scores, f .lengths, c .before .before .before .before .before .before .before .pre .1)
+tell-piece-requires c κs = let f = told (c .before .before .before .before .before .before .before) in (f .sound, c .before .before .before .before .before .before .before .pre .1, f .piece .values, f .tables .first, f .cells, f .scores, f .lengths, c .before .before .before .before .before .before .before .pre .2)
 
 last-after-requires : tie.Need-last-after-requires
 last-after-requires c κs =
@@ -29,8 +29,8 @@ last-after-requires c κs =
     let few = parts (c .before .before .before .before .before .before .before .before .before .before .before .before .before .before .before .args .p) (f .sound) .fewChannels in
     omega arith
 
-add-t21 : tie.Need-add-t21
-add-t21 c = let r = told (c .before .before .before .before .before .before .before .before .before .before .before .before .before .before .before .before .before) .room in omega arith
+add-t22 : tie.Need-add-t22
+add-t22 c = let r = told (c .before .before .before .before .before .before .before .before .before .before .before .before .before .before .before .before .before) .room in omega arith
 
 same-length : tie.Need-same-length
 same-length c = search needs
@@ -67,7 +67,7 @@ feed-piece-spec =
     is-new-requires
     tell-piece-requires
     last-after-requires
-    add-t21
+    add-t22
     same-length
     same-length-2
     same-length-3

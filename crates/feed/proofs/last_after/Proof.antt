@@ -1,18 +1,15 @@
 use borrow.Author.Needs.{needs}
-use Prim.Native.Nat.{ℕ, zero, suc, _+_, _*_, _-_, _≤_, _<_}
+use Prim.Native.Nat.{zero, _+_, _-_, _≤_}
 use native.Mathlib.Omega.{arith}
-use mathlib.Core.Path.{_≡_, refl, sym, ap, subst, _∙_}
-use lib.ListN.{length, getD, take, drop}
+use mathlib.Core.Path.{_≡_, _∙_}
+use lib.ListN.{length, getD, take}
 use lib.Seq.{paste, paste-zero, take-length}
-use lib.IntN.{ℤ, pos}
+use lib.IntN.{pos}
 use mir.Val.{toZ, ofZ}
 use mir.Syntax.{w32}
-use mir.Facts.{toZ-ofZ}
 use Rattle.pattern.proofs.ListLaws.{stored-more}
 use Rattle.feed.proofs.last_after.Statement.{statement}
 use Rattle.feed.proofs.last_after.Tie as tie
-use Rattle.feed.proofs.last_after.Reads as reads
-use Rattle.feed.proofs.last_after.Lts as lts
 
 abbrev Inv-loop : tie.InvT-loop
 Inv-loop values kept₀ i₀ kept i = (i ≤ length values) × (kept ≡ paste kept₀ 0 values i)
@@ -20,35 +17,27 @@ Inv-loop values kept₀ i₀ kept i = (i ≤ length values) × (kept ≡ paste k
 abbrev μ-loop : tie.MeasureT-loop
 μ-loop values kept₀ i₀ kept i = length values - i
 
--- src/lib.rt:108:5
 loop-holds : tie.Need-loop-holds Inv-loop μ-loop
 loop-holds c = (omega arith, paste-zero (c .args .last) 0 (c .args .values .now))
 
--- src/lib.rt:109:21
 mul-value : tie.Need-mul-value Inv-loop μ-loop
 mul-value c = let h = c .before .before .pre in omega arith
 
--- src/lib.rt:109:21
 shared-slice-copy-out-value : tie.Need-shared-slice-copy-out-value Inv-loop μ-loop
 shared-slice-copy-out-value c = omega arith
 
--- src/lib.rt:110:9
 mul-kept : tie.Need-mul-kept Inv-loop μ-loop
 mul-kept c = let h = c .before .before .before .pre in omega arith
 
--- src/lib.rt:110:9
 array-set-from-kept : tie.Need-array-set-from-kept Inv-loop μ-loop
 array-set-from-kept c = let h = c .before .before .before .pre in omega arith
 
--- src/lib.rt:111:9
 add-i : tie.Need-add-i Inv-loop μ-loop
 add-i c = let h = c .before .before .before .pre in omega arith
 
--- src/lib.rt:108:5
 loop-less : tie.Need-loop-less Inv-loop μ-loop
 loop-less c = omega arith
 
--- src/lib.rt:108:5
 loop-again : tie.Need-loop-again Inv-loop μ-loop
 loop-again c =
     let l = c .before .before .loop in
@@ -56,7 +45,6 @@ loop-again c =
     let value : toZ w32 (ofZ w32 (getD (a .values .now) (l .i) (pos 0))) ≡ getD (a .values .now) (l .i) (pos 0) = search needs in
     (omega arith, rw (l .inv .1, value) (stored-more (a .last) (a .values .now) (l .i) (pos 0) (omega arith) (omega arith)))
 
--- src/lib.rt:102:1
 returns : tie.Need-returns Inv-loop μ-loop
 returns c =
     let l = c .before .loop in

@@ -1,4 +1,4 @@
-use mathlib.Core.Path.{_≡_, refl, sym, ap, _∙_}
+use mathlib.Core.Path.{_≡_, sym, _∙_}
 use mathlib.Core.Option.{none, some}
 use lib.ListN.{length}
 use Rattle.monitor.specs.Open.{openRefusal}
@@ -6,21 +6,13 @@ use Rattle.feed_checks.proofs.Accepted.{done, refused-for, opened}
 use borrow.Author.Needs.{needs}
 use Rattle.feed.proofs.open.Statement.{statement}
 use Rattle.feed.proofs.open.Tie as tie
-use Rattle.feed.proofs.open.Reads as reads
-use Rattle.feed.proofs.open.Lts as lts
-use Rattle.feed.proofs.no_ticks.Reads as no-ticks-reads
-use Rattle.feed.proofs.open_both.Reads as open-both-reads
-use Rattle.feed_checks.proofs.open_refusal.Reads as open-refusal-reads
 
--- src/lib.rt:82:11
 open-refusal-requires : tie.Need-open-refusal-requires
 open-refusal-requires c κs = search needs
 
--- src/lib.rt:84:26
 enum-told : tie.Need-enum-told
 enum-told c = search needs
 
--- src/lib.rt:84:13
 open-both-requires : tie.Need-open-both-requires
 open-both-requires c κs =
     let b = c .before .before .before .before in
@@ -28,23 +20,18 @@ open-both-requires c κs =
     let o = opened (a .p) (length (a .first .now)) (length (a .second .now)) (done (openRefusal (a .p) (length (a .first .now)) (length (a .second .now))) (sym (c .before .before .enum-told .given .1) ∙ b .open-refusal .ensures)) in
     (o .sound, (o .tables .first, o .tables .second))
 
--- src/lib.rt:85:17
 no-ticks-requires : tie.Need-no-ticks-requires
 no-ticks-requires c κs = search needs
 
--- src/lib.rt:91:25
 enum-known-r : tie.Need-enum-known-r
 enum-known-r c = search needs
 
--- src/lib.rt:77:1
 same-length : tie.Need-same-length
 same-length c = search needs
 
--- src/lib.rt:77:1
 same-length-2 : tie.Need-same-length-2
 same-length-2 c = search needs
 
--- src/lib.rt:77:1
 returns : tie.Need-returns
 returns c =
     let a = c .before .before .before .before .before .before .before .before .before .args in
@@ -52,7 +39,6 @@ returns c =
     let o = c .before .before .before .open-both .ensures in
     (rw (e, c .no-ticks .ensures), (rw e (o .0), rw e (o .1)))
 
--- src/lib.rt:77:1
 returns-2 : tie.Need-returns-2
 returns-2 c =
     let a = c .before .before .before .before .args in

@@ -1,6 +1,5 @@
-use Prim.Native.Nat.{ℕ, _+_, _*_, _≤_, _<_}
 use native.Mathlib.Omega.{arith}
-use mathlib.Core.Path.{_≡_, refl, sym, ap, subst, _∙_}
+use mathlib.Core.Path.{ap, _∙_}
 use mathlib.Core.List.{List}
 use mathlib.Core.Bool.{Bool, false}
 use Rattle.cells.specs.declared.Layout.{Layout}
@@ -10,22 +9,13 @@ use Rattle.feed.proofs.Meaning.{layout-made, open-written}
 use borrow.Author.Needs.{needs}
 use Rattle.feed.proofs.open_both.Statement.{statement}
 use Rattle.feed.proofs.open_both.Tie as tie
-use Rattle.feed.proofs.open_both.Reads as reads
-use Rattle.feed.proofs.open_both.Lts as lts
-use Rattle.cells.proofs.layout_of.Reads as layout-of-reads
-use Rattle.feed.proofs.mark_all.Reads as mark-all-reads
-use Rattle.feed_ticks.proofs.kind_flags.Reads as kind-flags-reads
-use Rattle.table_tick.proofs.open.Reads as open-reads
 
--- src/lib.rt:69:9
 layout-of-requires : tie.Need-layout-of-requires
 layout-of-requires c κs = search needs
 
--- src/lib.rt:71:9
 kind-flags-requires : tie.Need-kind-flags-requires
 kind-flags-requires c κs = search needs
 
--- src/lib.rt:72:5
 open-requires : tie.Need-open-requires
 open-requires c κs =
     let b = c .before .before in
@@ -34,19 +24,15 @@ open-requires c κs =
     let e = m .1 in
     record { laid = m .0; inside = omega arith }
 
--- src/lib.rt:73:5
 mark-all-requires : tie.Need-mark-all-requires
 mark-all-requires c κs = search needs
 
--- src/lib.rt:62:1
 same-length : tie.Need-same-length
 same-length c = search needs
 
--- src/lib.rt:62:1
 same-length-2 : tie.Need-same-length-2
 same-length-2 c = search needs
 
--- src/lib.rt:62:1
 returns : tie.Need-returns
 returns c =
     let b = c .before .before .before .before .before .before .before in

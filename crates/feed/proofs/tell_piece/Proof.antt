@@ -13,9 +13,6 @@ use Rattle.feed.proofs.Still.{table-still, reports-still}
 use Rattle.feed.proofs.tell_piece.Statement.{statement}
 use Rattle.feed.proofs.tell_piece.Tie as tie
 
-layout-of-requires : tie.Need-layout-of-requires
-layout-of-requires c κs = search needs
-
 view-in-requires : tie.Need-view-in-requires
 view-in-requires c κs = search needs
 
@@ -48,30 +45,30 @@ cast-moved c = search needs
 
 tell-all-requires : tie.Need-tell-all-requires
 tell-all-requires c κs =
-    let s = c .before .before .before .before .before .before .before .before .before .before .before .before .before .before .before .before in
+    let s = c .before .before .before .before .before .before .before .before .before .before .before .before .before .before .before in
     let a = s .args in
     let sound = s .pre .0 in
-    let fine = s .pre .1 in
-    let long = s .pre .2 in
-    let whole = fine-whole (a .p) sound (a .first .now) long (s .pre .3) in
+    let fine = s .pre .2 in
+    let long = s .pre .3 in
+    let whole = fine-whole (a .p) sound (a .first .now) long (s .pre .4) in
     let m = c .before .before .before .before .least .result in
     let is : m ≡ min (a .duration) _ = c .before .before .before .before .least .ensures in
-    let scores = s .pre .4 in
-    let lengths = s .pre .5 in (
-      rw (c .before .before .before .before .before .before .before .before .before .before .before .before .before .layout-of .ensures, c .before .before .before .before .before .before .before .before .before .before .before .before .view-in .ensures, c .before .before .before .before .before .before .before .before .before .before .before .view-in2 .ensures, c .before .before .before .before .before .before .before .before .before .kind-flags .ensures, c .before .before .before .before .before .before .before .before .kind-flags2 .ensures)
+    let scores = s .pre .5 in
+    let lengths = s .pre .6 in (
+      rw (s .pre .1, c .before .before .before .before .before .before .before .before .before .before .before .before .view-in .ensures, c .before .before .before .before .before .before .before .before .before .before .before .view-in2 .ensures, c .before .before .before .before .before .before .before .before .before .kind-flags .ensures, c .before .before .before .before .before .before .before .before .kind-flags2 .ensures)
           (telling (a .p) sound (a .values .now) fine (a .new) (a .first .now) long whole _ _ _ (omega arith) (omega arith)),
-      rw (c .before .before .before .before .before .before .before .before .before .before .before .before .before .layout-of .ensures) (s .pre .6),
+      rw (s .pre .1) (s .pre .7),
     )
 
 repeat-last-requires : tie.Need-repeat-last-requires
 repeat-last-requires c κs =
-    let s = c .before .before .before .before .before .before .before .before .before .before .before .before .before .before .before .before .before .before .before .before .before .before .before .before .before in
+    let s = c .before .before .before .before .before .before .before .before .before .before .before .before .before .before .before .before .before .before .before .before .before .before .before .before in
     let a = s .args in
     let m = c .before .before .before .before .before .before .before .before .before .before .before .before .before .least .result in
     let is : m ≡ min (a .duration) _ = c .before .before .before .before .before .before .before .before .before .before .before .before .before .least .ensures in
     let k = c .before .before .before .before .before .before .before .before .tell-all in
-    let scores = s .pre .4 in
-    let lengths = s .pre .5 in
+    let scores = s .pre .5 in
+    let lengths = s .pre .6 in
     let scores-long : length (k .last .1 .1 .0) ≡ length (a .scores .now) = k .kept .1 .1 .0 in
     let lengths-long : length (k .last .1 .1 .1 .0) ≡ length (a .lengths .now) = k .kept .1 .1 .1 .0 in
     let scores-room : a .duration ≤ length (k .last .1 .1 .0) = omega arith in
@@ -92,18 +89,18 @@ same-length-4 c = search needs
 
 returns : tie.Need-returns
 returns c =
-    let s = c .before .before .before .before .before .before .before .before .before .before .before .before .before .before .before .before .before .before .before .before .before .before .before .before .before .before .before .before .before in
+    let s = c .before .before .before .before .before .before .before .before .before .before .before .before .before .before .before .before .before .before .before .before .before .before .before .before .before .before .before .before in
     let a = s .args in
     let sound = s .pre .0 in
-    let fine = s .pre .1 in
-    let long = s .pre .2 in
-    let whole = fine-whole (a .p) sound (a .first .now) long (s .pre .3) in
+    let fine = s .pre .2 in
+    let long = s .pre .3 in
+    let whole = fine-whole (a .p) sound (a .first .now) long (s .pre .4) in
     let o = c .before .before .before .before .before .before .before .before .before .before .before .before .tell-all .ensures in
     let r = c .before .before .before .repeat-last .ensures in
     let m = c .before .before .before .before .before .before .before .before .before .before .before .before .before .before .before .before .before .least .result in
     let d = a .duration in
     let is : m ≡ min d (a .p .high + 1) = c .before .before .before .before .before .before .before .before .before .before .before .before .before .before .before .before .before .least .ensures in
-    let l = c .before .before .before .before .before .before .before .before .before .before .before .before .before .before .before .before .before .before .before .before .before .before .before .before .before .before .layout-of .ensures in
+    let l = s .pre .1 in
     let v = c .before .before .before .before .before .before .before .before .before .before .before .before .before .before .before .before .before .before .before .before .before .before .before .before .before .view-in .ensures in
     let u = c .before .before .before .before .before .before .before .before .before .before .before .before .before .before .before .before .before .before .before .before .before .before .before .before .view-in2 .ensures in
     let starts = c .before .before .before .before .before .before .before .before .before .before .before .before .before .before .before .before .before .before .before .before .before .before .kind-flags .ensures in
@@ -112,11 +109,11 @@ returns c =
       (
         r .0
             ∙ ap (λ (x : List ℤ). repeated x m (d - m) (getD x (m - 1) (pos 0))) (o .1 .0 ∙ rw (l, v, u, starts, ends) (scores-told (a .p) sound (a .values .now) fine (a .new) (a .first .now) long whole (a .scores .now) m))
-            ∙ reports-still (a .p) sound (a .values .now) (a .new) (a .first .now) d m is scoreIn (a .scores .now) (pos 0) (s .pre .4),
+            ∙ reports-still (a .p) sound (a .values .now) (a .new) (a .first .now) d m is scoreIn (a .scores .now) (pos 0) (s .pre .5),
         (
           r .1
               ∙ ap (λ (x : List ℕ). repeated x m (d - m) (getD x (m - 1) 0)) (o .1 .1 .0 ∙ rw (l, v, u, starts, ends) (lengths-told (a .p) sound (a .values .now) fine (a .new) (a .first .now) long whole (a .lengths .now) m))
-              ∙ reports-still (a .p) sound (a .values .now) (a .new) (a .first .now) d m is lengthIn (a .lengths .now) 0 (s .pre .5),
+              ∙ reports-still (a .p) sound (a .values .now) (a .new) (a .first .now) d m is lengthIn (a .lengths .now) 0 (s .pre .6),
           rw (← l) (o .1 .1 .1),
         ),
       ),
@@ -126,7 +123,6 @@ pub tell-piece-spec : {M : Type 1} → statement M
 tell-piece-spec =
     tie.close
     (tie.spec
-    layout-of-requires
     view-in-requires
     view-in-requires-2
     kind-flags-requires

@@ -1,6 +1,5 @@
 -- `feed_refusal`: past a check it is known that the check gave no cause, so the first that gives one decides. Where none
 -- does, the flags are those that were found with the cells.
-use native.Mathlib.Omega.{arith}
 use mathlib.Core.Path.{_≡_, sym, ap, _∙_}
 use mathlib.Core.Option.{Option, none, some, Option·none-ne-some}
 use mathlib.Core.List.{[], _∷_}
@@ -12,7 +11,6 @@ use Rattle.pattern.specs.declared.Refusal.{Refusal}
 use Rattle.pattern.specs.declared.Refusal.the-variants.{BrokenCell, OutputTooShort}
 use Rattle.pattern.specs.Sound.{soundOf}
 use Rattle.pattern.specs.Cells.{cellsNeeded}
-use Rattle.pattern.proofs.SoundLaws.{parts}
 use Rattle.cells.specs.Layout.{layoutOf}
 use Rattle.monitor.specs.declared.Answer.the-variants.{Refused}
 use Rattle.monitor.specs.State.{stateSound}
@@ -145,7 +143,7 @@ cells-broken-requires c κs =
     let k = sound (d .before .before) in
     let h = long (a .p) (length (a .first .now)) (a .second) (not-short d) .first in
     let e = c .before .layout-of .ensures in
-    (rw e (laid (a .p) k), rw (e, cells-are (a .p) k) h, rw e (omega (arith, parts (a .p) k .shortHigh, s .pre)))
+    (rw e (laid (a .p) k), rw (e, cells-are (a .p) k) h, rw e (s .pre k))
 
 same-length : tie.Need-same-length
 same-length c = search needs

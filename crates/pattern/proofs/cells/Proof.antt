@@ -1,4 +1,4 @@
-use mathlib.Core.Path.{_≡_, refl, sym, ap, _∙_}
+use mathlib.Core.Path.{sym, _∙_}
 use Rattle.pattern.specs.Cells.{cellsOf}
 use borrow.Author.Needs.{needs}
 use Rattle.pattern.proofs.cells.Statement.{statement}

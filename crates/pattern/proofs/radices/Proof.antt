@@ -1,5 +1,5 @@
 use native.Mathlib.Omega.{arith}
-use mathlib.Core.Path.{_≡_, refl, sym, ap, _∙_}
+use mathlib.Core.Path.{_≡_, refl, ap, _∙_}
 use native.Mathlib.Numerals.{add-one}
 use Prim.Native.Nat.{suc, _*_, _≤_, _-_}
 use Rattle.pattern.specs.Cells.{radixOf, radixProduct}

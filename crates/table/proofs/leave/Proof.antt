@@ -1,12 +1,10 @@
 -- `leave` turns into the block that the step leads to, and notes what a run may end with.
 use Prim.Native.Nat.{ℕ, _+_}
 use native.Mathlib.Omega.{arith}
-use mathlib.Core.Path.{_≡_, refl, ap, _∙_}
+use mathlib.Core.Path.{_≡_, ap, _∙_}
 use mathlib.Core.Bool.{false}
 use lib.ListN.{length, getD}
 use mir.Facts.{toZ-ofZ}
-use Rattle.pattern.specs.Clocks.{afterResets}
-use Rattle.cells.specs.Index.{codeOf}
 use Rattle.cells.proofs.Digits.{reset-within}
 use Rattle.table.proofs.Steps.{small-clocks, next-in}
 use Rattle.table.proofs.Told.{told-move}

@@ -1,6 +1,6 @@
 -- `turn` offers the worth and raises the block's flag, if the edge can be taken.
 use native.Mathlib.Omega.{arith}
-use mathlib.Core.Path.{_≡_, refl, sym, _∙_}
+use mathlib.Core.Path.{refl, sym, _∙_}
 use mir.Facts.{toZ-ofZ}
 use Rattle.cells.proofs.Digits.{reset-within}
 use Rattle.table.proofs.Steps.{code-lt, moved-is, moved-no}

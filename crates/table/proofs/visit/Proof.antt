@@ -1,13 +1,13 @@
 -- `visit` lets a worth stay, and says what is to be sent on.
 use Prim.Native.Nat.{_+_, _<_}
 use native.Mathlib.Omega.{arith}
-use mathlib.Core.Path.{_≡_, refl, sym, ap, _∙_}
+use mathlib.Core.Path.{_≡_, refl, sym}
 use lib.ListN.{length}
 use mir.Syntax.{w64}
 use mir.Val.{toZ, ofZ}
 use mir.Facts.{toZ-ofZ}
 use Rattle.weighting.specs.Weightings.{weightingOf}
-use Rattle.cells.specs.Index.{codeOf, Placed}
+use Rattle.cells.specs.Index.{Placed}
 use Rattle.cells.proofs.Digits.{ticked-within, ticked-long}
 use Rattle.cells.proofs.Blocks.{block-in}
 use Rattle.table.proofs.Steps.{grown-fits, code-lt, still-goes, still-resets, moved-is, stay-is, sent-is}

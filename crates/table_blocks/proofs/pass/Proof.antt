@@ -1,19 +1,17 @@
 -- `pass` visits a block, unless the gain is the mark or all its cells are. Before it the flag is raised of the block that its
 -- worths stay in.
-use Prim.Native.Nat.{ℕ, _+_, _≤_, _<_, zero-le}
+use Prim.Native.Nat.{_+_, _<_, zero-le}
 use native.Mathlib.Omega.{arith}
-use mathlib.Core.Path.{_≡_, refl}
-use mathlib.Core.Bool.{false}
+use mathlib.Core.Path.{_≡_, sym}
 use lib.ListN.{length}
-use lib.Signed.{ltZ}
 use mir.Facts.{toZ-ofZ}
 use Rattle.weighting.specs.Cell.{mark}
 use Rattle.cells.proofs.Blocks.{row-fits}
 use Rattle.flags.specs.Flags.{flagAt}
 use Rattle.flags.proofs.Flags.{raised-is, grown-refl, grown-trans, raised-grown}
-use Rattle.table.specs.Moves.{cellAt, each}
-use Rattle.table.proofs.Steps.{pass-is, pass-no, visits-skip}
-use Rattle.table.proofs.Told.{told-pass, told-pass-no, told-skip}
+use Rattle.table.proofs.Steps.{pass-is, pass-no}
+use Rattle.table.proofs.Told.{told-pass, told-pass-no}
+use Rattle.table.proofs.Empty.{empty-pass, empty-told}
 use borrow.Author.Needs.{needs}
 use Rattle.table_blocks.proofs.pass.Statement.{statement}
 use Rattle.table_blocks.proofs.pass.Tie as tie
@@ -93,18 +91,15 @@ returns c =
       ),
     )
 
+-- a block of marks alone
 returns-2 : tie.Need-returns-2
-unfolding each
 returns-2 c =
     let st = c .before .before .before in
     let a = st .args in
-    let m = rw (toZ-ofZ (st .fits .gain)) at (c .before .if1 .taken) in
-    let none : (j : ℕ) → 0 ≤ j → j < a .l .block → ltZ mark (cellAt (a .table .now) (a .at + j)) ≡ false = λ j x y. rw (st .pre .3 (c .if2 .left) j y) refl in (
-      told-pass (a .l) (a .w) (a .edges) (a .count) (a .tells .now) (a .gain) (a .n) (a .p) (a .at) (a .table .now) (a .r) _ m
-          (told-skip (a .l) (a .w) (a .edges) (a .count) (a .tells .now) (a .gain) (a .n) (a .p) (a .at) (a .table .now) 0 (a .l .block) (a .r) zero-le none),
+    let e = st .pre .3 (c .if2 .left) in (
+      sym (empty-told (a .l) (a .w) (a .edges) (a .count) (a .table .now) (a .gain) (a .n) (a .p) (a .at) e (a .tells .now) (a .r)),
       (
-        pass-is (a .l) (a .w) (a .edges) (a .count) (a .gain) (a .n) (a .p) (a .at) (a .table .now) _ m
-            (visits-skip (a .l) (a .w) (a .edges) (a .count) (a .gain) (a .n) (a .p) (a .at) 0 (a .l .block) (a .table .now) zero-le none),
+        sym (empty-pass (a .l) (a .w) (a .edges) (a .count) (a .table .now) (a .gain) (a .n) (a .p) (a .at) e),
         grown-refl (st .pre .2),
       ),
     )

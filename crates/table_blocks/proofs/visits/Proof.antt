@@ -3,30 +3,27 @@
 use Prim.Native.Nat.{ℕ, _+_, _*_, _≤_, _<_, _-_, zero-le}
 use native.Mathlib.Omega.{arith}
 use mathlib.Core.Path.{_≡_, refl, sym, ap, _∙_}
-use mathlib.Core.Bool.{Bool, true}
+use mathlib.Core.Bool.{true}
 use borrow.Author.Needs.{needs}
-use lib.ListN.{length, getD}
+use lib.ListN.{length}
 use lib.IntN.{ℤ}
 use lib.Signed.{ltZ}
 use mir.Syntax.{w64}
 use mir.Val.{toZ, ofZ}
 use mir.Facts.{toZ-ofZ}
 use Rattle.weighting.specs.Cell.{mark}
-use Rattle.cells.specs.Index.{clocksAt, Within}
+use Rattle.cells.specs.Index.{clocksAt}
 use Rattle.cells.proofs.Digits.{clocks-zero, block-small, ticked-within}
 use Rattle.cells.proofs.Blocks.{row-fits}
 use Rattle.table.specs.declared.Sent.{Sent}
-use Rattle.table.specs.declared.report.Report.{Report}
 use Rattle.flags.specs.Flags.{Grown}
-use Rattle.table.specs.Asks.{Hop, Passing}
-use Rattle.steps.specs.Steps.{edgeIn}
-use Rattle.table.specs.Moves.{cellAt, each, leaveOf, visitOf, visitsOf}
-use Rattle.table.specs.Reports.{toldLeave, toldVisit, toldVisits}
-use Rattle.table.proofs.Steps.{each-more, sized-in, passing-kept, passing-moving, rest, hop-more, hop-all, rest-end, leave-is, leave-no, sent-visit, visits-skip}
-use Rattle.table.proofs.Told.{told-is, told-no, visit-same, told-visit, told-skip}
+use Rattle.table.specs.Moves.{cellAt, each, visitOf, visitsOf}
+use Rattle.table.specs.Reports.{toldVisit, toldVisits}
+use Rattle.table.proofs.Steps.{each-more, sized-in, passing-kept, passing-moving, sent-visit, visits-skip}
+use Rattle.table.proofs.Told.{visit-same, told-visit, told-skip}
 use Rattle.flags.proofs.Flags.{grown-refl, grown-trans}
 use Rattle.table.proofs.Flags.{flagged-stay}
-use Rattle.table.proofs.Kept.{Kept, kept-refl, kept-trans, turn-kept, stay-kept, visit-kept}
+use Rattle.table.proofs.Kept.{Kept, kept-refl, kept-trans, stay-kept, visit-kept}
 use Rattle.table_blocks.proofs.visits.Statement.{statement}
 use Rattle.table_blocks.proofs.visits.Tie as tie
 

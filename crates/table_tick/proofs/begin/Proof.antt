@@ -1,13 +1,11 @@
 -- `begin` writes the empty run where each start place begins.
-use Prim.Native.Nat.{_*_}
 use native.Mathlib.Omega.{arith}
-use native.Mathlib.Nat.{mul-le-mul-right}
 use mathlib.Core.Path.{_≡_}
 use mir.Syntax.{w64}
 use mir.Val.{toZ, ofZ}
 use mir.Facts.{toZ-ofZ}
 use Rattle.cells.proofs.Digits.{block-some}
-use Rattle.cells.proofs.Blocks.{row-first}
+use Rattle.cells.proofs.Blocks.{blocks-inside, row-first}
 use borrow.Author.Needs.{needs}
 use Rattle.table_tick.proofs.begin.Statement.{statement}
 use Rattle.table_tick.proofs.begin.Tie as tie
@@ -18,9 +16,9 @@ unit-requires c κs = search needs
 seeds-requires : tie.Need-seeds-requires
 seeds-requires c κs = let st = c .before .before in
     let l = st .args .l in
-    let u = mul-le-mul-right {m = l .places} {n = 2 * l .places} (l .block) (omega arith) in
+    let u = blocks-inside l (st .pre .laid) (l .places) (omega arith) in
     let i = st .pre .inside in
-    (st .pre .laid .few, block-some l (st .pre .laid), omega (arith, st .pre .laid .row-is, row-first l))
+    (st .pre .laid .few, block-some l (st .pre .laid), omega (arith, row-first l))
 
 same-length : tie.Need-same-length
 same-length c = search needs

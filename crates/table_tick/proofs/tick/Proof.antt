@@ -4,28 +4,19 @@ use native.Mathlib.Omega.{arith}
 use native.Mathlib.Nat.{zero-mul}
 use mathlib.Core.Path.{_≡_}
 use borrow.Author.Needs.{needs}
-use Rattle.table.proofs.Steps.{known-sourced, whole-rows, tick-is}
+use Rattle.table.proofs.Steps.{whole-rows, tick-is}
 use Rattle.table.proofs.Flags.{flagged-starts}
-use borrow.Author.Needs.{needs}
 use Rattle.table_tick.proofs.tick.Statement.{statement}
 use Rattle.table_tick.proofs.tick.Tie as tie
 
-links-of-requires : tie.Need-links-of-requires
-links-of-requires c κs =
-    known-sourced (c .before .pre .0 .known)
-
-steps-of-requires : tie.Need-steps-of-requires
-steps-of-requires c κs =
-    (c .before .before .pre .0 .known .edges, c .before .before .pre .0 .known .fits)
-
 rows-requires : tie.Need-rows-requires
 rows-requires c κs =
-    let st = c .before .before .before .before .before .before .before in
-    (st .pre .0 .known, record { linked = c .before .before .before .before .before .links-of .ensures; made = c .before .before .before .before .steps-of .ensures }, whole-rows (st .args .table .now) (st .args .l) (st .pre .0 .known .laid) (st .pre .0 .whole), st .pre .1)
+    let st = c .before .before .before in
+    (st .pre .0 .known, st .pre .1, whole-rows (st .args .table .now) (st .args .l) (st .pre .0 .known .laid) (st .pre .0 .whole), st .pre .2)
 
 wipe-row-requires : tie.Need-wipe-row-requires
 wipe-row-requires c κs =
-    let st = c .before .before .before .before .before .before .before .before .before .before .before .before .before in
+    let st = c .before .before .before .before .before .before .before .before .before in
     let r = c .before .before .before .before .before .rows in
     let i = st .pre .0 .whole .inside in
     let j = r .kept .0 in
@@ -33,7 +24,7 @@ wipe-row-requires c κs =
 
 begin-requires : tie.Need-begin-requires
 begin-requires c κs =
-    let st = c .before .before .before .before .before .before .before .before .before .before .before .before .before .before .before .before .before .before in
+    let st = c .before .before .before .before .before .before .before .before .before .before .before .before .before .before in
     let i = st .pre .0 .whole .inside in
     let j = c .before .before .before .before .before .before .before .before .before .before .rows .kept .0 in
     let k = c .before .before .before .before .wipe-row .kept .0 in
@@ -41,7 +32,7 @@ begin-requires c κs =
 
 raise-starts-requires : tie.Need-raise-starts-requires
 raise-starts-requires c κs =
-    let st = c .before .before .before .before .before .before .before .before .before .before .before .before .before .before .before .before .before .before .before .before .before in
+    let st = c .before .before .before .before .before .before .before .before .before .before .before .before .before .before .before .before .before in
     let few = st .pre .0 .known .laid .few in
     let f = c .before .before .before .before .before .before .before .wipe-row .ensures .1 .long in
     (omega arith, few)
@@ -54,7 +45,7 @@ same-length-2 c = search needs
 
 returns : tie.Need-returns
 returns c =
-    let st = c .before .before .before .before .before .before .before .before .before .before .before .before .before .before .before .before .before .before .before .before .before .before .before .before in
+    let st = c .before .before .before .before .before .before .before .before .before .before .before .before .before .before .before .before .before .before .before .before in
     let a = st .args in
     let r = c .before .before .before .before .before .before .before .before .before .before .before .before .before .before .before .before .rows .ensures in
     let w = c .before .before .before .before .before .before .before .before .before .before .wipe-row .ensures in
@@ -69,8 +60,6 @@ pub tick-spec : {M : Type 1} → statement M
 tick-spec =
     tie.close
     (tie.spec
-    links-of-requires
-    steps-of-requires
     rows-requires
     wipe-row-requires
     begin-requires

@@ -1,15 +1,13 @@
 -- `wipe_blocks` goes block by block; those to come are as they were.
 use Prim.Native.Nat.{ℕ, _+_, _-_, _*_, _≤_, zero-le}
 use native.Mathlib.Omega.{arith}
-use native.Mathlib.Nat.{zero-mul, mul-le-mul-right}
+use native.Mathlib.Nat.{zero-mul}
 use mathlib.Core.Path.{_≡_, refl, sym, ap, _∙_}
-use borrow.Author.Needs.{needs}
 use lib.ListN.{length}
 use Rattle.cells.specs.Layout.{cellsIn}
-use Rattle.cells.proofs.Blocks.{row-next}
+use Rattle.cells.proofs.Blocks.{row-next, row-inside, blocks-inside}
 use Rattle.flags.proofs.Bits.{bit-unset}
 use Rattle.table.specs.Moves.{marked}
-use Rattle.table.proofs.Kept.{marked-long}
 use Rattle.table.proofs.Flags.{marked-append, block-empty}
 use Rattle.table_tick.proofs.wipe_blocks.Statement.{statement}
 use Rattle.table_tick.proofs.wipe_blocks.Tie as tie
@@ -26,10 +24,7 @@ abbrev μ-loop : tie.MeasureT-loop
 ends : (c : tie.Start Inv-loop μ-loop) (i : ℕ) → i ≤ 2 * c .args .l .places → c .args .n * c .args .l .row + i * c .args .l .block ≤ cellsIn (c .args .l)
 ends c i h =
     let l = c .args .l in
-    let low = c .pre .2 in
-    let u = mul-le-mul-right {m = i} {n = 2 * l .places} (l .block) h in
-    let v = mul-le-mul-right {m = c .args .n + 1} {n = l .high + 1} (l .row) (omega arith) in
-    omega (arith, row-next (c .args .n) (l .row), c .pre .0 .row-is)
+    omega (arith, row-inside l (c .args .n) (c .pre .2), blocks-inside l (c .pre .0) i h)
 
 mul-count : tie.Need-mul-count Inv-loop μ-loop
 mul-count c =

@@ -1,9 +1,8 @@
 -- Step by step, and each brings the end nearer.
-use Prim.Native.Nat.{ℕ, _≤_, _<_}
+use Prim.Native.Nat.{_≤_}
 use native.Mathlib.Omega.{arith}
-use mathlib.Core.Path.{_≡_, refl, sym, ap, _∙_}
-use borrow.Author.Needs.{needs}
-use borrow.Author.Tests.{not-false, not-true}
+use mathlib.Core.Path.{_≡_, refl, sym, _∙_}
+use borrow.Author.Tests.{not-true}
 use lib.ListN.{length}
 use Rattle.watch_steps.specs.Steps.{stepsLeft, Standing}
 use Rattle.watch.proofs.show_all.Statement.{statement}

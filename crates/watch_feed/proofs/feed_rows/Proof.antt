@@ -1,5 +1,5 @@
 -- One feed, its reports looked at and put.
-use mathlib.Core.Path.{_≡_, ap, _∙_}
+use mathlib.Core.Path.{ap, _∙_}
 use borrow.Author.Needs.{needs}
 use Rattle.monitor.specs.declared.After.{After}
 use Rattle.watch_feed.proofs.feed_rows.Statement.{statement}

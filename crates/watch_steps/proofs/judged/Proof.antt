@@ -1,11 +1,10 @@
 -- The record is refused, or the monitor opened.
-use mathlib.Core.Path.{_≡_, refl, sym, ap, subst, _∙_}
+use mathlib.Core.Path.{_≡_, sym, ap, _∙_}
 use mathlib.Core.Option.{none, some}
 use borrow.Author.Needs.{needs}
 use lib.ListN.{length}
 use Rattle.record_text.specs.Text.{recordRefusal}
-use Rattle.watch_steps.specs.declared.Watch.{Watch}
-use Rattle.watch_steps.specs.Steps.{dueFor, Standing}
+use Rattle.watch_steps.specs.Steps.{dueFor}
 use Rattle.watch_steps.proofs.Opening.{checked-sound, checked-refused, opened-due, opened-standing}
 use Rattle.watch_steps.proofs.judged.Statement.{statement}
 use Rattle.watch_steps.proofs.judged.Tie as tie

@@ -1,12 +1,10 @@
 -- The next piece, or the present one.
 use native.Mathlib.Omega.{arith}
-use mathlib.Core.Path.{_≡_, refl, sym, ap, _∙_}
-use mathlib.Core.Bool.{true, false, cond, _&&_}
+use mathlib.Core.Path.{ap}
 use borrow.Author.Needs.{needs}
 use borrow.Author.Tests.{ne-eqb, lt-ltb, le-ltb}
 use lib.Dec.{eqb, ltb}
 use lib.ListN.{length}
-use Rattle.record_read.specs.declared.PieceRead.{PieceRead}
 use Rattle.watch_steps.specs.Steps.{cursorAt, movedOn}
 use Rattle.watch_steps.proofs.move_on.Statement.{statement}
 use Rattle.watch_steps.proofs.move_on.Tie as tie

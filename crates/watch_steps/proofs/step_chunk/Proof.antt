@@ -1,10 +1,10 @@
 -- A chunk fed and its lines put.
-use Prim.Native.Nat.{ℕ, _+_, _-_, _≤_, min}
+use Prim.Native.Nat.{_-_}
 use native.Mathlib.Omega.{arith}
-use mathlib.Core.Path.{_≡_, refl, sym, ap, _∙_}
+use mathlib.Core.Path.{_≡_, sym, ap}
 use borrow.Author.Needs.{needs}
 use lib.Seq.{length-take-le}
-use lib.ListN.{length, take, getD, length-map}
+use lib.ListN.{length, take, length-map}
 use Rattle.watch_steps.proofs.step_chunk.Statement.{statement}
 use Rattle.watch_steps.proofs.step_chunk.Tie as tie
 

@@ -1,12 +1,12 @@
 -- The text's end, or a chunk of a piece.
-use Prim.Native.Nat.{ℕ, _≤_, _<_}
+use Prim.Native.Nat.{_≤_, _<_}
 use native.Mathlib.Omega.{arith}
-use mathlib.Core.Path.{_≡_, refl, sym, ap, subst, _∙_}
+use mathlib.Core.Path.{_≡_, sym, subst}
 use borrow.Author.Needs.{needs}
 use lib.ListN.{length}
 use Rattle.pattern.proofs.SoundLaws.{parts}
 use Rattle.watch_steps.specs.declared.Cursor.{Cursor}
-use Rattle.watch_steps.specs.Steps.{movedOn, Underway}
+use Rattle.watch_steps.specs.Steps.{Underway}
 use Rattle.watch_steps.proofs.Moved.{moved, moved-end}
 use Rattle.watch_steps.proofs.Steps.{begins, last-stepped, chunk-room, chunk-lengths, chunk-stepped}
 use Rattle.watch_steps.proofs.step_rows.Statement.{statement}

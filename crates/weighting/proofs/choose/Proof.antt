@@ -1,6 +1,6 @@
 -- `choose` is the better of what the cell holds and the worth; a cell with the mark holds nothing.
 use borrow.Author.Needs.{needs}
-use mathlib.Core.Path.{_≡_, _∙_}
+use mathlib.Core.Path.{_∙_}
 use mir.Syntax.{w64}
 use mir.Facts.{toZ-ofZ}
 use Rattle.weighting.specs.Weightings.{weightingOf}

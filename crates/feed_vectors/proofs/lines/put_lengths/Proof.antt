@@ -1,6 +1,5 @@
 -- `put_lengths` is safe and ends: what is left of the lengths falls.
 use native.Mathlib.Omega.{arith}
-use mathlib.Core.Path.{_≡_}
 use Prim.Native.Nat.{_≤_, _-_}
 use lib.ListN.{length}
 use borrow.Author.Needs.{needs}

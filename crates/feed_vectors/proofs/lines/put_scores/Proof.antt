@@ -1,9 +1,7 @@
 -- `put_scores` is safe and ends: what is left of the scores falls.
 use native.Mathlib.Omega.{arith}
-use mathlib.Core.Path.{_≡_}
 use Prim.Native.Nat.{_≤_, _-_}
 use lib.ListN.{length}
-use borrow.Author.Needs.{needs}
 use Rattle.feed_vectors.proofs.lines.put_scores.Statement.{statement}
 use Rattle.feed_vectors.proofs.lines.put_scores.Tie as tie
 

@@ -1,4 +1,4 @@
-use mathlib.Core.Path.{_≡_, refl, sym, ap, _∙_}
+use mathlib.Core.Path.{_∙_}
 use borrow.Author.Needs.{needs}
 use Rattle.pattern.proofs.clocks.guard_holds.Statement.{statement}
 use Rattle.pattern.proofs.clocks.guard_holds.Tie as tie

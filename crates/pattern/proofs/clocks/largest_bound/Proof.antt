@@ -1,5 +1,5 @@
 use native.Mathlib.Omega.{arith}
-use mathlib.Core.Path.{_≡_, refl, sym, ap, _∙_}
+use mathlib.Core.Path.{_≡_, ap, _∙_}
 use Prim.Native.Nat.{_≤_, _-_, min, max}
 use lib.ListN.{length, length-map, take}
 use Rattle.pattern.specs.Cells.{boundsOn, largest}

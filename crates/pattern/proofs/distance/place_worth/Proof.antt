@@ -10,7 +10,7 @@ use mir.Facts.{toZ-ofZ}
 use Rattle.integers.proofs.Ranges.{abs-fits-64}
 use Rattle.weighting.specs.Weightings.{weightingOf}
 use Rattle.weighting.proofs.Sizes.{unit-size, combine-size}
-use Rattle.pattern.specs.Distance.{distanceIn, distancesOf, placeWorth}
+use Rattle.pattern.specs.Distance.{distancesOf, placeWorth}
 use Rattle.pattern.proofs.ListLaws.{take-in-use}
 use Rattle.pattern.proofs.DistanceLaws.{worthTo, worth-none, worth-more}
 use Rattle.pattern.proofs.distance.place_worth.Statement.{statement}

@@ -1,9 +1,7 @@
 -- `put_cells` is safe and ends: what is left of the table falls.
 use native.Mathlib.Omega.{arith}
-use mathlib.Core.Path.{_≡_}
 use Prim.Native.Nat.{_≤_, _-_}
 use lib.ListN.{length}
-use borrow.Author.Needs.{needs}
 use Rattle.vector_parts.proofs.tables.put_cells.Statement.{statement}
 use Rattle.vector_parts.proofs.tables.put_cells.Tie as tie
 
