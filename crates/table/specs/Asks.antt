@@ -51,7 +51,7 @@ pub record Filed (t : List ℤ) (l : Layout) : Type 0 where
   pub laid : Laid l
   pub inside : cellsIn l ≤ length t
 
--- ---- the edges, once a piece
+-- ---- the edges, once for all ticks of a call
 
 -- Each edge leaves one of 16 places.
 pub record Sourced (es : List Edge) (count : ℕ) : Type 0 where
