@@ -1,9 +1,9 @@
 // Best of a record: the record is fed to a monitor in chunks, and the best of the reports is kept.
 use cells::layout_of;
-use feed::feed_piece;
-use feed::flag_opened;
 use feed::open;
 use feed_checks::open_refusal;
+use feed_moves::feed_piece;
+use feed_moves::flag_opened;
 use monitor::Answer;
 use monitor::State;
 use pattern::Pattern;

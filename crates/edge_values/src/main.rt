@@ -1,21 +1,14 @@
-// Document 01's unstarred edge values, and then every vector: what was tried, what was answered and, beside the edge values,
-// what was due. What the other lines must say is in the file `stdout`, worked out by hand.
-mod guards;
-mod lines;
-mod tables;
+// Document 01's unstarred edge values, what was answered beside what was due; then the table of texts and that of pattern
+// values; and the refusals of a pattern that is unsound.
 mod texts;
 
 fn main() {
     io::write_all(1, b"edge values; 0 is for read or done\n");
     texts::run();
-    tables::run();
-    guards::run();
-    io::write_all(1, b"texts\n");
+    call_values::tables::run();
+    call_values::guards::run();
     text_vectors::run();
-    io::write_all(1, b"prices\n");
-    price_vectors::run();
-    io::write_all(1, b"openings and feeds\n");
-    feed_vectors::run();
-    io::write_all(1, b"bests\n");
-    best_vectors::run();
+    value_vectors::run();
+    io::write_all(1, b"a pattern without channels\n");
+    call_values::unsound::run();
 }

@@ -1,5 +1,5 @@
 // Edge values of texts: 0, or the refusal.
-use super::lines::judge;
+use call_values::lines::judge;
 use pattern::number;
 use pattern_read::Outcome;
 use pattern_read::read;

@@ -1,3 +1,2 @@
--- The ticks of a piece; what opening and feeding hand back: the definitions of the crate monitor, side by side.
-pub mod Piece
+-- Definitions: the state and the answer side by side.
 pub mod After

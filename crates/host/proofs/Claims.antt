@@ -22,7 +22,7 @@ use Rattle.best.specs.declared.Found.the-variants as found
 use Rattle.best.specs.Best.{Chosen, bestRefusal, answered, bestOf, chosenOf, foundAs, chosenAs}
 use Rattle.best.proofs.Answer.{best-numbers}
 use Rattle.host_monitor.proofs.Claims.{read-sound}
-use Rattle.host.specs.Answers.{priceTold, bestTold}
+use Rattle.host_told.specs.Told.{priceTold, bestTold}
 use Rattle.host.specs.Claims.{PriceNumbers, RecordNumbers, BestRefusedAltersNothing}
 
 -- ---- the numbers

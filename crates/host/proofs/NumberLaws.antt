@@ -4,15 +4,16 @@ use native.Mathlib.Omega.{arith}
 use mathlib.Core.Path.{_≡_, refl}
 use mathlib.Core.Logic.{_↔_}
 use mathlib.Core.Bool.{false}
-use Rattle.pattern.specs.Sound.{soundOf, headerInRange}
+use Rattle.pattern.specs.Sound.{noPattern, soundOf, headerInRange}
 use Rattle.pattern.specs.Cells.{cellsOf}
 use Rattle.pattern_text.specs.Bytes.{Bytes}
 use Rattle.pattern_text.specs.Text.{Answer, accepted, refused, readOf}
 use Rattle.pattern_text.proofs.Theorems.{texts-exact}
-use Rattle.pattern_read.specs.Reading.{noPattern, readingOf}
+use Rattle.pattern_read.specs.Reading.{readingOf}
 use Rattle.pattern_text.proofs.Answers.{refusal-numbers}
 use Rattle.pattern.proofs.Claims.{some-cell}
-use Rattle.host.specs.Numbers.{outcomeNumber, countedCells, checkOf, countOf, NumbersTell}
+use Rattle.host_told.specs.Told.{outcomeNumber, countedCells}
+use Rattle.host.specs.Numbers.{checkOf, countOf, NumbersTell}
 
 pub check-told : (a : Answer) → outcomeNumber (readingOf a .outcome) ≡ checkOf a
 check-told (accepted p) = refl

@@ -3,36 +3,23 @@
 -- reader's number and alters nothing.
 use Prim.Native.Nat.{ℕ}
 use mathlib.Core.List.{List}
-use lib.IntN.{ℤ, pos}
-use Rattle.pattern.specs.Refusal.{numberOf}
+use lib.IntN.{ℤ}
 use Rattle.pattern_text.specs.Text.{Answer, accepted, refused}
-use Rattle.price.specs.declared.Priced.{Priced}
 use Rattle.price.specs.declared.Priced.the-variants as priced
 use Rattle.price.specs.Price.{pricedOf}
-use Rattle.best.specs.declared.Found.{Found}
 use Rattle.best.specs.declared.Found.the-variants as found
 use Rattle.best.specs.Best.{bestOf, bestFirst, bestSecond}
-use Rattle.host.specs.declared.RunPrice.{RunPrice}
-use Rattle.host.specs.declared.RecordBest.{RecordBest}
+use Rattle.host_told.specs.declared.RunPrice.{RunPrice}
+use Rattle.host_told.specs.declared.RecordBest.{RecordBest}
+use Rattle.host_told.specs.Told.{priceTold, bestTold}
 
 -- ---- pricing
-
--- the refusal's number, and the score; "a value that must stand beside it is zeros throughout"
-abbrev pub priceTold : Priced → RunPrice
-priceTold (priced.Score w) = record { refusal = 0; score = w }
-priceTold (priced.Refused r) = record { refusal = numberOf r; score = pos 0 }
 
 abbrev pub runPrice : Answer → (durations : List ℕ) → (values : List ℤ) → (begin : ℕ) → (edges stays : List ℕ) → RunPrice
 runPrice (refused r) ds vs begin es ss = priceTold (priced.Refused r)
 runPrice (accepted p) ds vs begin es ss = priceTold (pricedOf p ds vs begin es ss)
 
 -- ---- the best of a record
-
--- `found` is 1 beside a run; without one, and beside a refusal, all else is zeros
-abbrev pub bestTold : Found → RecordBest
-bestTold (found.Run end begin score) = record { refusal = 0; found = 1; end = end; begin = begin; score = score }
-bestTold found.Nothing = record { refusal = 0; found = 0; end = 0; begin = 0; score = pos 0 }
-bestTold (found.Refused r) = record { refusal = numberOf r; found = 0; end = 0; begin = 0; score = pos 0 }
 
 abbrev pub recordBest : Answer → (durations : List ℕ) → (values : List ℤ) → (first second : List ℤ) → RecordBest
 recordBest (refused r) ds vs t u = bestTold (found.Refused r)

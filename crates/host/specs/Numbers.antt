@@ -4,14 +4,10 @@
 use Prim.Native.Nat.{ℕ, _≤_}
 use mathlib.Core.Path.{_≡_}
 use mathlib.Core.Logic.{_↔_}
-use Rattle.pattern.specs.declared.Counted.{Counted}
-use Rattle.pattern.specs.declared.Counted as counted
 use Rattle.pattern.specs.Refusal.{numberOf}
 use Rattle.pattern.specs.Cells.{cellsNeeded}
 use Rattle.pattern_text.specs.Bytes.{Bytes}
 use Rattle.pattern_text.specs.Text.{Answer, accepted, refused, readOf}
-use Rattle.pattern_read.specs.declared.Outcome.{Outcome}
-use Rattle.pattern_read.specs.declared.Outcome as outcome
 
 -- "0 or the refusal from the check"
 abbrev pub checkOf : Answer → ℕ
@@ -26,13 +22,3 @@ countOf (refused r) = 0
 -- Theorem: the check gives 0 or a refusal from 1 to 5, and the count is 0 exactly for a refused text.
 abbrev pub NumbersTell : Type 0
 NumbersTell = (t : Bytes) → (checkOf (readOf t) ≤ 5) × ((countOf (readOf t) ≡ 0) ↔ (1 ≤ checkOf (readOf t)))
-
--- ---- the same of the answers of the operations below, for the contracts of the functions that take them apart
-
-abbrev pub outcomeNumber : Outcome → ℕ
-outcomeNumber outcome.the-variants.Accepted = 0
-outcomeNumber (outcome.the-variants.Refused r) = numberOf r
-
-abbrev pub countedCells : Counted → ℕ
-countedCells (counted.the-variants.Cells n) = n
-countedCells (counted.the-variants.Refused r) = 0

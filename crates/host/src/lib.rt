@@ -7,54 +7,22 @@ use best::best;
 use host_monitor::cause_number;
 use host_monitor::feed_pattern;
 use host_monitor::open_pattern;
-use pattern::Counted;
+use host_told::RecordBest;
+use host_told::RunPrice;
+use host_told::best_told;
+use host_told::counted_cells;
+use host_told::outcome_number;
+use host_told::price_told;
 use pattern_read::Outcome;
 use price::Priced;
 use price::price;
 ghost use mathlib.Core.Path.{_≡_};
 ghost use Rattle.pattern_text.specs.Text.{readOf};
 ghost use Rattle.feed.specs.After.{callOf};
-ghost use Rattle.host.specs.Numbers.{outcomeNumber, countedCells, checkOf, countOf};
+ghost use Rattle.host.specs.Numbers.{checkOf, countOf};
 ghost use Rattle.host_monitor.specs.Calls.{openedNumber, openedState, openedFirst, openedSecond};
 ghost use Rattle.host_monitor.specs.Calls.{fedNumber, fedState, fedFirst, fedSecond, fedScores, fedLengths};
-ghost use Rattle.host.specs.Answers.{priceTold, runPrice, bestTold, recordBest, recordFirst, recordSecond};
-
-// What a run is worth; 0 beside a refusal.
-#[repr(C)]
-pub struct RunPrice {
-    pub refusal: u32,
-    pub score: i64,
-}
-
-// The best run of a record: `found` is 1, or 0 if there is none; then, and beside a refusal, the rest is 0.
-#[repr(C)]
-pub struct RecordBest {
-    pub refusal: u32,
-    pub found: u32,
-    pub end: u32,
-    pub begin: u32,
-    pub score: i64,
-}
-
-// 0 if the text was accepted, or the refusal's number.
-fn outcome_number(outcome: Outcome) -> u32
-    ensures { λ r. ⌜ r ≡ outcomeNumber outcome ⌝ }
-{
-    match outcome {
-        Outcome::Accepted => 0,
-        Outcome::Refused(cause) => cause_number(cause),
-    }
-}
-
-// The cells that were counted, 0 if the pattern value was refused.
-fn counted_cells(counted: Counted) -> u64
-    ensures { λ r. ⌜ r ≡ countedCells counted ⌝ }
-{
-    match counted {
-        Counted::Cells(cells) => cells,
-        Counted::Refused(_) => 0,
-    }
-}
+ghost use Rattle.host.specs.Answers.{runPrice, recordBest, recordFirst, recordSecond};
 
 // "0 or the refusal from the check"
 #[no_mangle]
@@ -143,22 +111,6 @@ pub extern "C" fn monitor_feed(
     }
 }
 
-// A price as the host is told it.
-fn price_told(answer: Priced) -> RunPrice
-    ensures { λ r. ⌜ r ≡ priceTold answer ⌝ }
-{
-    match answer {
-        Priced::Score(score) => RunPrice {
-            refusal: 0,
-            score: score,
-        },
-        Priced::Refused(cause) => RunPrice {
-            refusal: cause_number(cause),
-            score: 0,
-        },
-    }
-}
-
 // Pricing a run: 1 to 5, then 8, 9, 10. Nothing lent is written.
 #[no_mangle]
 pub extern "C" fn run_price(
@@ -178,35 +130,6 @@ pub extern "C" fn run_price(
     match outcome {
         Outcome::Accepted => price_told(price(p, durations, values, begin, edges, stays)),
         Outcome::Refused(cause) => price_told(Priced::Refused(cause)),
-    }
-}
-
-// The best as the host is told it.
-fn best_told(answer: Found) -> RecordBest
-    ensures { λ r. ⌜ r ≡ bestTold answer ⌝ }
-{
-    match answer {
-        Found::Run(end, begin, score) => RecordBest {
-            refusal: 0,
-            found: 1,
-            end: end,
-            begin: begin,
-            score: score,
-        },
-        Found::Nothing => RecordBest {
-            refusal: 0,
-            found: 0,
-            end: 0,
-            begin: 0,
-            score: 0,
-        },
-        Found::Refused(cause) => RecordBest {
-            refusal: cause_number(cause),
-            found: 0,
-            end: 0,
-            begin: 0,
-            score: 0,
-        },
     }
 }
 

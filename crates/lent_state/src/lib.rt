@@ -18,8 +18,8 @@ pub fn open(state: &mut State, p: Pattern, first: &mut [i64], second: &mut [i64]
 {
     let before = *state;
     let after = feed::open(before, p, first, second);
-    let next = after.state;
-    *state = next;
+    let opened = after.state;
+    *state = opened;
     after.answer
 }
 
@@ -49,8 +49,8 @@ pub fn feed(
 {
     let before = *state;
     let after = feed::feed(before, p, first, second, duration, values, scores, lengths);
-    let next = after.state;
-    *state = next;
+    let fed = after.state;
+    *state = fed;
     after.answer
 }
 

@@ -6,6 +6,7 @@ use mathlib.Core.Bool.{Bool, true, false, not, _&&_}
 use lib.Dec.{eqb, leb, ltb}
 use lib.ListN.{replicate}
 use lib.IntN.{ℤ, pos, negsuc, natAbs}
+use Rattle.weighting.specs.declared.Weighing.the-variants.{Margin}
 use Rattle.pattern.specs.declared.Sign.{Sign}
 use Rattle.pattern.specs.declared.Sign.the-variants.{Less, AtMost, More, AtLeast}
 use Rattle.pattern.specs.declared.Kind.{Kind}
@@ -30,6 +31,20 @@ noGuard = record { sign = Less; clock = 0; bound = 0 }
 
 abbrev pub noEdge : Edge
 noEdge = record { from = 0; to = 0; guards = replicate 4 noGuard; count = 0; resets = replicate 4 false }
+
+-- a pattern beside a refusal, zeros throughout
+abbrev pub noPattern : Pattern
+noPattern = record {
+  weighing = Margin;
+  channels = 0;
+  clocks = 0;
+  low = 0;
+  high = 0;
+  placecount = 0;
+  places = replicate 16 noPlace;
+  edgecount = 0;
+  edges = replicate 32 noEdge;
+}
 
 abbrev pub isLess : Sign → Bool
 isLess Less = true

@@ -9,7 +9,7 @@ use lib.Dec.{leb, ltb}
 use lib.ListN.{length, set, length-append, length-map}
 use borrow.Author.Tests.{leb-true, ltb-true, lt-ltb}
 use Rattle.pattern.specs.Slots.{all}
-use Rattle.pattern.specs.Sound.{noPlace, noEdge, testInRange, testKnown, guardInRange, guardKnown, headerInRange}
+use Rattle.pattern.specs.Sound.{noPlace, noEdge, testInRange, testKnown, guardInRange, guardKnown, headerInRange, noPattern}
 use Rattle.pattern_text.specs.Line.{Header, PlaceLine, EdgeLine}
 use Rattle.pattern_text.specs.Fault.{Doc, rising, edgeKnown, placeFault, edgeFault, withPlace, withEdge}
 use Rattle.pattern_text.specs.Text.{pad, placeOf, edgeOf, patternOf}
@@ -22,9 +22,8 @@ use Rattle.line_lists.specs.Lists.{gatheredTests, gatheredGuards}
 use Rattle.line_lists.specs.ResetList.{noResets, added}
 use Rattle.line_read.specs.Lines.{heldHeader}
 use Rattle.line_lists.proofs.Held.{min-ltb}
-use Rattle.pattern_read.specs.Reading.{noPattern}
-use Rattle.pattern_read.specs.Turn.{verdict, verdictOf, headerFine, headerAlone, putPlace, placeVerdict, placeFrom, putEdge, edgeVerdict, edgeFrom}
-use Rattle.pattern_read.proofs.Judgement.{InRange, ranges}
+use Rattle.pattern_lines.specs.Turn.{verdict, verdictOf, headerFine, headerAlone, putPlace, placeVerdict, placeFrom, putEdge, edgeVerdict, edgeFrom}
+use Rattle.pattern_lines.proofs.Judgement.{InRange, ranges}
 use Rattle.pattern_read.proofs.HeldLines.{header-held, few-held, place-held, guards-held, resets-held, resets-known}
 
 -- ---- the header

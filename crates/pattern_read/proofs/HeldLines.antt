@@ -24,7 +24,7 @@ use Rattle.line_parts.specs.Parts.{heldTest, heldGuard}
 use Rattle.line_lists.specs.Lists.{gatheredTests, gatheredGuards}
 use Rattle.line_lists.specs.ResetList.{noResets, addReset, added}
 use Rattle.line_lists.proofs.Held.{min-leb, min-ltb}
-use Rattle.pattern_read.specs.Turn.{placeFrom}
+use Rattle.pattern_lines.specs.Turn.{placeFrom}
 
 -- ---- the header
 

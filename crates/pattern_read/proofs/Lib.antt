@@ -1,6 +1,5 @@
 -- Laws: reading a pattern.
-pub mod Judgement
-pub mod TurnLaws
+pub mod Finishing
 pub mod HeldLines
 pub mod Cutting
 pub mod Filling

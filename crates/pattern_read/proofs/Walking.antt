@@ -25,12 +25,13 @@ use Rattle.text_scan.proofs.Position.{rest-at}
 use Rattle.line_read.specs.declared.HeaderRead as headerread
 use Rattle.line_lists.specs.Lists.{gatheredTests}
 use Rattle.line_read.specs.Lines.{heldHeader, headerAt, placeIn, placeAt, edgeIn, edgeAt}
-use Rattle.pattern_read.specs.declared.Stage as stage
-use Rattle.pattern_read.specs.declared.State.{State}
-use Rattle.pattern_read.specs.declared.Content as content
-use Rattle.pattern_read.specs.declared.Line.{Line}
+use Rattle.pattern_lines.specs.declared.Stage as stage
+use Rattle.pattern_lines.specs.declared.State.{State}
+use Rattle.pattern_lines.specs.declared.Content as content
+use Rattle.pattern_lines.specs.declared.Line.{Line}
 use Rattle.pattern_read.specs.Reading.{readingOf}
-use Rattle.pattern_read.specs.Turn.{bareLine, ofPlace, ofEdge, refusedLine, verdict, headerFine, headerJudged, headerLineAt, ruled, placeFrom, placeJudged, placeLineAt, edgeFrom, edgeJudged, edgeLineAt, refusedAt, putLine, countsOf, turnOf, refusedOf, settledOf, finishOf, startState}
+use Rattle.pattern_lines.specs.Turn.{bareLine, ofPlace, ofEdge, refusedLine, verdict, headerFine, headerJudged, headerLineAt, ruled, placeFrom, placeJudged, placeLineAt, edgeFrom, edgeJudged, edgeLineAt, refusedAt, putLine, countsOf, turnOf}
+use Rattle.pattern_read.specs.Finish.{refusedOf, settledOf, finishOf, startState}
 use Rattle.pattern_read.proofs.Cutting.{ended-sound, ended-complete, ended-shorter, line-there, line-absent}
 use Rattle.pattern_read.proofs.Filling.{edgeRead, headed, header-same, header-filled, place-judged, place-filled, edge-judged, edge-filled}
 

@@ -1,3 +1,3 @@
 -- Definitions: reading a pattern.
 pub mod Reading
-pub mod Turn
+pub mod Finish

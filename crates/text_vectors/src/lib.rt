@@ -1,17 +1,19 @@
-// Executes the table of texts texts.txt, which says its own form: each text is read, an accepted one is written back, and
-// the answers are compared with the table's. tests/host tries the same table from C.
+// Executes the table of texts texts.txt, which says its own form: each text is read, an accepted one is written back, into
+// a longer buffer, an exact fit and too short ones, and the answers are compared with the table's. tests/host tries the same
+// table from C.
+pub mod writes;
+
 use libc::STDOUT_FILENO;
 use pattern::Counted;
 use pattern::Pattern;
 use pattern_read::Outcome;
-use pattern_write::Written;
 ghost use Prim.Native.Nat.{_<_, _≤_};
 ghost use lib.ListN.{length};
 
 // A number in base ten and where it ends. There may be no digit.
-struct Numeral {
-    value: u64,
-    end: usize,
+pub struct Numeral {
+    pub value: u64,
+    pub end: usize,
 }
 
 // How many bytes the text has so far, and how many texts were answered as the table says, or otherwise.
@@ -50,7 +52,7 @@ fn with_digit(value: u64, b: u8) -> u64 {
 }
 
 // The digits that stand at a position.
-fn numeral_at(table: &[u8], at: usize) -> Numeral {
+pub fn numeral_at(table: &[u8], at: usize) -> Numeral {
     let mut value: u64 = 0;
     let mut end = at;
     while end < table.len() && is_digit(table[end]) {
@@ -61,7 +63,7 @@ fn numeral_at(table: &[u8], at: usize) -> Numeral {
 }
 
 // Where the next line begins.
-fn next_line(table: &[u8], at: usize) -> usize
+pub fn next_line(table: &[u8], at: usize) -> usize
     requires { ⌜ at < length (now table) ⌝ }
     ensures { λ r. ⌜ (at < r) × (r ≤ length (now (table .entry))) ⌝ }
 {
@@ -105,26 +107,8 @@ fn put_times(text: &mut [u8], length: usize, part: &[u8], times: u64) -> usize {
 }
 
 // The byte with this number.
-fn low_byte(n: u64) -> u8 {
+pub fn low_byte(n: u64) -> u8 {
     if n < 256 { n as u8 } else { 0 }
-}
-
-// Whether the text is the first n bytes of the output.
-fn same_front(text: &[u8], out: &[u8], n: usize) -> bool {
-    if n <= out.len() {
-        check::same(text, &out[..n])
-    } else {
-        false
-    }
-}
-
-// Whether the pattern's text is the one it was read from.
-fn written(text: &[u8], p: Pattern) -> bool {
-    let mut out = [0u8; 8192];
-    match pattern_write::write(p, &mut out) {
-        Written::Length(n) => same_front(text, &out, n),
-        Written::Refused(_) => false,
-    }
 }
 
 // Whether the pattern needs so many cells.
@@ -141,7 +125,7 @@ fn answers(text: &[u8], number: u64, cells: u64) -> bool {
     let outcome = reading.outcome;
     let p = reading.pattern;
     match outcome {
-        Outcome::Accepted => (number == 0) & counted(p, cells) & written(text, p),
+        Outcome::Accepted => (number == 0) & counted(p, cells) & writes::written(text, p),
         Outcome::Refused(cause) => (number == pattern::number(cause) as u64) & (cells == 0),
     }
 }
@@ -172,7 +156,7 @@ fn add(text: &mut [u8], length: usize, table: &[u8], from: usize, to: usize, tim
 }
 
 // Prints a word and the table's line, from `from` to the next line.
-fn print(ok: bool, table: &[u8], from: usize, to: usize) {
+pub fn print(ok: bool, table: &[u8], from: usize, to: usize) {
     if ok {
         io::write_all(STDOUT_FILENO, b"ok ");
     } else {
@@ -277,7 +261,8 @@ fn answer_all(table: &[u8], text: &mut [u8]) -> Tally {
     t
 }
 
-pub fn run() {
+// The table is in the folder where the program runs.
+fn texts() {
     let fd = os::open_read(b"texts.txt");
     if fd < 0 {
         os::fail(b"texts.txt");
@@ -292,4 +277,9 @@ pub fn run() {
     io::write_all(STDOUT_FILENO, b" right, ");
     io::print_decimal(STDOUT_FILENO, t.wrong);
     io::write_all(STDOUT_FILENO, b" wrong\n");
+}
+
+pub fn run() {
+    io::write_all(STDOUT_FILENO, b"texts\n");
+    texts();
 }

@@ -8,7 +8,7 @@ use Rattle.feed_checks.proofs.cell_fine.Tie as tie
 
 returns : tie.Need-returns
 unfolding cellFine
-returns c = rw (toZ-ofZ (c .fits .cell), mark-bits (c .args .cell) (c .fits .cell), sized 32759999999 (c .args .cell))
+returns c = simp (toZ-ofZ (c .fits .cell), mark-bits (c .args .cell) (c .fits .cell), sized 32759999999 (c .args .cell))
 
 pub cell-fine-spec : {M : Type 1} → statement M
 cell-fine-spec = tie.close (tie.spec returns)

@@ -3,7 +3,7 @@ use mathlib.Core.Path.{ap, _∙_}
 use borrow.Author.Needs.{needs}
 use Rattle.pattern_text.specs.Text.{readOf}
 use Rattle.pattern_read.specs.declared.PatternRead.{PatternRead}
-use Rattle.host.specs.Numbers.{outcomeNumber}
+use Rattle.host_told.specs.Told.{outcomeNumber}
 use Rattle.host.proofs.NumberLaws.{check-told}
 use Rattle.host.proofs.pattern_check.Statement.{statement}
 use Rattle.host.proofs.pattern_check.Tie as tie

@@ -1,5 +1,5 @@
 -- `finish` meets its contract.
-use Rattle.pattern_read.proofs.TurnLaws.{finish-by}
+use Rattle.pattern_read.proofs.Finishing.{finish-by}
 use borrow.Author.Needs.{needs}
 use Rattle.pattern_read.proofs.finish.Statement.{statement}
 use Rattle.pattern_read.proofs.finish.Tie as tie

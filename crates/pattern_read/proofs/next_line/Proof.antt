@@ -39,27 +39,27 @@ use denote.Triple.Table.{entered, cited}
 use denote.Triple.Walked.{says, needs, Stays, stay-dropped, walkOf, goes-dropped, Walks, ends-at, walked, walk-meets}
 use denote.Exit.{yes}
 use denote.Triple.Clauses.{ensured, lasts}
-use Rattle.pattern_read.specs.Turn.{turned}
+use Rattle.pattern_lines.specs.Turn.{turned}
 use Rattle.text_reader.specs.declared.Reader.{Reader}
-use Rattle.pattern_read.specs.declared.State.{State}
+use Rattle.pattern_lines.specs.declared.State.{State}
 use Rattle.text_reader.proofs.Apart.{apart}
 use Rattle.text_reader.proofs.Calls.{Standing, standing-known, Own, twice, typed-r, to-standing, goes-standing, standing-said}
 use Rattle.text_reader.proofs.Reader as T
 use Rattle.text_reader.proofs.Reader.Laws as T′
-use Rattle.pattern_read.specs.declared.Stage.{Stage}
-use Rattle.pattern_read.proofs.Stage as G
-use Rattle.pattern_read.proofs.Stage.Laws as G′
+use Rattle.pattern_lines.specs.declared.Stage.{Stage}
+use Rattle.pattern_lines.proofs.Stage as G
+use Rattle.pattern_lines.proofs.Stage.Laws as G′
 use Rattle.pattern.specs.declared.Pattern.{Pattern}
 use Rattle.pattern.proofs.Pattern as P
 use Rattle.pattern.proofs.Pattern.Laws as P′
-use Rattle.pattern_read.proofs.State as S
-use Rattle.pattern_read.proofs.State.Laws as S′
+use Rattle.pattern_lines.proofs.State as S
+use Rattle.pattern_lines.proofs.State.Laws as S′
 use Rattle.text_reader.proofs.standing as standing
 use Rattle.text_reader.proofs.standing.Symbol.{name as #standing}
-use Rattle.pattern_read.proofs.turn as turn
-use Rattle.pattern_read.proofs.turn.Symbol as turn-def
-use Rattle.pattern_read.proofs.turn.Symbol.{name as #turn}
-use Rattle.pattern_read.proofs.turn.Met as turn-thm
+use Rattle.pattern_lines.proofs.turn as turn
+use Rattle.pattern_lines.proofs.turn.Symbol as turn-def
+use Rattle.pattern_lines.proofs.turn.Symbol.{name as #turn}
+use Rattle.pattern_lines.proofs.turn.Met as turn-thm
 use Rattle.pattern_read.proofs.next_line.Key.{name as #next-line}
 use Rattle.pattern_read.proofs.next_line as next-line
 use Rattle.pattern_read.proofs.next_line.Statement as stated
@@ -188,4 +188,4 @@ next-line-spec 𝓤 H 𝓜 𝓖 𝓡 =
     (tables 𝓤 H 𝓜 𝓡 code.env .C) (tables 𝓤 H 𝓜 𝓡 code.env .Λ) #next-line code.function (code.unfolded 𝓤 H 𝓜 𝓡)
     (next-line-meets 𝓤 H (𝓖 .A) (givenOf 𝓤 H 𝓜 𝓖) (𝓜 .mem) (𝓡 .run) (tablesOf 𝓤 H 𝓜 (tables 𝓤 H 𝓜 𝓡 code.env))
     (standing-known 𝓤 H 𝓜 𝓖 𝓡 code.env code.calls-text-reader·standing)
-    (cited 𝓤 H (Turn 𝓤 H (𝓖 .A) (𝓜 .mem) (𝓡 .run)) 𝓜 𝓡 code.env #turn turn-def.routine code.calls-pattern-read·turn (turn-thm.met 𝓤 H 𝓜 𝓖 𝓡)))
+    (cited 𝓤 H (Turn 𝓤 H (𝓖 .A) (𝓜 .mem) (𝓡 .run)) 𝓜 𝓡 code.env #turn turn-def.routine code.calls-pattern-lines·turn (turn-thm.met 𝓤 H 𝓜 𝓖 𝓡)))

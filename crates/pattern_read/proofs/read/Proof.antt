@@ -3,7 +3,7 @@ use mathlib.Core.Path.{_∙_}
 use lib.ListN.{length}
 use borrow.Author.Tests.{lt-ltb, le-ltb}
 use Rattle.pattern_text.specs.Text.{readOf}
-use Rattle.pattern_read.specs.Turn.{refusedOf}
+use Rattle.pattern_read.specs.Finish.{refusedOf}
 use Rattle.pattern_read.proofs.read.Statement.{statement}
 use Rattle.pattern_read.proofs.read.Tie as tie
 

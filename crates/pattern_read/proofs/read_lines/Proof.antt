@@ -55,13 +55,14 @@ use Rattle.pattern.specs.declared.Pattern.{Pattern}
 use Rattle.pattern.proofs.Pattern as P
 use Rattle.pattern.proofs.Pattern.Laws as P′
 use Rattle.pattern_read.specs.Reading.{readingOf}
-use Rattle.pattern_read.specs.Turn.{turned, turnOf, finishOf, startState}
-use Rattle.pattern_read.specs.declared.Stage.{Stage}
-use Rattle.pattern_read.specs.declared.State.{State}
-use Rattle.pattern_read.proofs.Stage as G
-use Rattle.pattern_read.proofs.Stage.Laws as G′
-use Rattle.pattern_read.proofs.State as S
-use Rattle.pattern_read.proofs.State.Laws as S′
+use Rattle.pattern_lines.specs.Turn.{turned, turnOf}
+use Rattle.pattern_read.specs.Finish.{finishOf, startState}
+use Rattle.pattern_lines.specs.declared.Stage.{Stage}
+use Rattle.pattern_lines.specs.declared.State.{State}
+use Rattle.pattern_lines.proofs.Stage as G
+use Rattle.pattern_lines.proofs.Stage.Laws as G′
+use Rattle.pattern_lines.proofs.State as S
+use Rattle.pattern_lines.proofs.State.Laws as S′
 use Rattle.pattern_read.proofs.Walking.{Stands, Onward, turn-on, finish-on, start-stands}
 use Rattle.text_reader.proofs.reader_at as make
 use Rattle.text_reader.proofs.reader_at.Symbol as make-def

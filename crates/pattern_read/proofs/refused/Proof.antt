@@ -1,7 +1,7 @@
 -- `refused` meets its contract.
 use mathlib.Core.Path.{ap}
 use Rattle.pattern_read.specs.declared.Outcome.the-variants.{Refused}
-use Rattle.pattern_read.specs.Turn.{refusedOf}
+use Rattle.pattern_read.specs.Finish.{refusedOf}
 use borrow.Author.Needs.{needs}
 use Rattle.pattern_read.proofs.refused.Statement.{statement}
 use Rattle.pattern_read.proofs.refused.Tie as tie

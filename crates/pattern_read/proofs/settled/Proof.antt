@@ -1,8 +1,8 @@
 -- `settled` meets its contract.
 use mathlib.Core.Path.{refl}
 use borrow.Author.Tests.{le-ltb}
-use Rattle.pattern_read.specs.Turn.{settledOf}
-use Rattle.pattern_read.proofs.TurnLaws.{settled-none}
+use Rattle.pattern_read.specs.Finish.{settledOf}
+use Rattle.pattern_read.proofs.Finishing.{settled-none}
 use borrow.Author.Needs.{needs}
 use Rattle.pattern_read.proofs.settled.Statement.{statement}
 use Rattle.pattern_read.proofs.settled.Tie as tie

@@ -1,7 +1,7 @@
 -- `start` meets its contract.
 use mathlib.Core.Path.{ap}
-use Rattle.pattern_read.specs.declared.Stage.the-variants.{Header}
-use Rattle.pattern_read.specs.Turn.{startState}
+use Rattle.pattern_lines.specs.declared.Stage.the-variants.{Header}
+use Rattle.pattern_read.specs.Finish.{startState}
 use borrow.Author.Needs.{needs}
 use Rattle.pattern_read.proofs.start.Statement.{statement}
 use Rattle.pattern_read.proofs.start.Tie as tie

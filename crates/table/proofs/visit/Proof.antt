@@ -41,7 +41,7 @@ combine-requires c κs =
     let st = c .before in
     let q = toZ-ofZ (st .fits .gain) in
     let p = toZ-ofZ (st .fits .worth) in
-    rw (p, q) (grown-fits (st .args .w) (st .args .worth) (st .args .gain) (st .pre .worth) (st .pre .gain))
+    simp (p, q) (grown-fits (st .args .w) (st .args .worth) (st .args .gain) (st .pre .worth) (st .pre .gain))
 
 add-block-at : tie.Need-add-block-at
 add-block-at c = search needs
@@ -75,7 +75,7 @@ returns c =
     let x = c .before .before .before .before .before .combine .result in
     let q = toZ-ofZ (st .fits .gain) in
     let p = toZ-ofZ (st .fits .worth) in
-    let f : x ≡ weightingOf (a .w) .combine (a .worth) (a .gain) = rw (p, q) at (c .before .before .before .before .before .combine .ensures) in
+    let f : x ≡ weightingOf (a .w) .combine (a .worth) (a .gain) = simp (p, q) at (c .before .before .before .before .before .combine .ensures) in
     let k : toZ w64 (ofZ w64 x) ≡ x = toZ-ofZ {w = w64} {z = x} (record { sfits = c .before .before .before .before .before .combine .ok }) in
     let e = c .before .before .before .before .before .before .tick-clocks .ensures in
     let to = c .before .before .before .before .block-at .ensures in

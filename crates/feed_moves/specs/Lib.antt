@@ -1,0 +1,2 @@
+-- Definitions: the ticks of a piece, for the code.
+pub mod Piece

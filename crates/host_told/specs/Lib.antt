@@ -1,0 +1,2 @@
+-- Definitions: answers as a host program written in C is told them.
+pub mod Told

@@ -1,0 +1,3 @@
+-- Laws: the lines of a pattern text, one by one.
+pub mod Judgement
+pub mod TurnLaws

@@ -1,0 +1,2 @@
+-- Definitions: the lines of a pattern text, one by one.
+pub mod Turn
