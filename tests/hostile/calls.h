@@ -10,7 +10,7 @@
 #include <inttypes.h>
 
 #include "bench_margin.h"
-#include "lend.h"
+#include "../lend.h"
 #include "patterns.h"
 #include "plain.h"
 

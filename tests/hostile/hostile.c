@@ -15,8 +15,8 @@
  *     feeds between, must tell and hold the same; the best of the record must be the best that was told; and for small
  *     ones every run is laid out and priced: each report must be the best price of all runs in the window with that end,
  *     and the least length that has it.
- * The last line is `N passed, M failed`: the rounds, a case for each refusal of each function, and one for each way in which
- * a slice can be too short or too long; all of them must occur. */
+ * The last line is `N passed, M failed`: the rounds. Each refusal of each function, and each way in which a slice can be too
+ * short or too long, must occur; one that does not is a failure more. */
 #define _DEFAULT_SOURCE
 #include "calls.h"
 
@@ -519,9 +519,7 @@ int main(int argc, char **argv)
         printf("\n");
         for (const char *n = named[f]; *n != '\xff'; n++) {
             right += seen[f][(int)*n];
-            if (seen[f][(int)*n] >= 20)
-                passed++;
-            else {
+            if (seen[f][(int)*n] < 20) {
                 failed++;
                 printf("FAILED: %s answered %d only %" PRIu64 " times\n", names[f], *n, seen[f][(int)*n]);
             }
@@ -529,21 +527,16 @@ int main(int argc, char **argv)
         if (right != all) {
             failed++;
             printf("FAILED: %s answered a number that is not named for it\n", names[f]);
-        } else
-            passed++;
+        }
         for (const char *s = sliced[f]; *s != '\xff'; s++)
             for (int n = 0; n < (*s == VALUES ? SHAPES : ONE_LONG); n++)
-                if (shaped[f][(int)*s][n] >= 20)
-                    passed++;
-                else {
+                if (shaped[f][(int)*s][n] < 20) {
                     failed++;
                     printf("FAILED: %s, %s %s only %" PRIu64 " times\n", names[f], slice_names[(int)*s], shape_names[n],
                            shaped[f][(int)*s][n]);
                 }
     }
-    if (compared >= 10000)
-        passed++;
-    else {
+    if (compared < 10000) {
         failed++;
         printf("FAILED: too few feeds beside the plain monitor\n");
     }

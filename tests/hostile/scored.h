@@ -1,5 +1,5 @@
 /* scored.h: the cases of the second scorer (tests/second/generate.rs), answered by the C functions. For each case the file
- * OUT/NUMBER.direct gets what `watch` prints: the rows from monitor_feed, each piece cut at random and with refused feeds
+ * OUT/NUMBER gets what `watch` prints: the rows from monitor_feed, each piece cut at random and with refused feeds
  * between, and the best line from record_best. Of the record's text only the form is judged here, and that each piece has a
  * value for each channel, which a slice of all values cannot say; everything else is the library's. */
 #ifndef SCORED_H
@@ -160,7 +160,7 @@ static void answer_cases(const char *path, const char *folder)
         if (sscanf(header, "=== %zu %zu %zu", &number, &pattern, &record) != 3 || pattern + record >= sizeof texts ||
             fread(texts, 1, pattern + record + 1, cases) != pattern + record + 1)
             lend_fault("a broken case");
-        snprintf(name, sizeof name, "%s/%zu.direct", folder, number);
+        snprintf(name, sizeof name, "%s/%zu", folder, number);
         out = fopen(name, "wb");
         if (!out)
             lend_fault("no file for an answer");

@@ -7,7 +7,7 @@
 //! are document 01's.
 //!
 //!     readings DIR                         answer for DIR/pattern.txt and DIR/record.txt
-//!     readings --many CASES --answers OUT  the answer to each case, into OUT/NUMBER/readings.txt
+//!     readings --many CASES --answers OUT  the answer to each case, into OUT/NUMBER
 //!     readings --many CASES --stats        what occurs in the cases; status 1 if something is missing
 
 use std::collections::BTreeMap;
@@ -1027,7 +1027,7 @@ fn main() {
     match arguments[..] {
         ["--many", cases, "--answers", out] => {
             for case in read_cases(cases) {
-                let path = format!("{out}/{}/readings.txt", case.number);
+                let path = format!("{out}/{}", case.number);
                 let written = std::fs::write(&path, answer(&case.pattern, &case.record));
                 written.unwrap_or_else(|error| stop(&format!("{path}: {error}")));
             }

@@ -7,6 +7,8 @@
 // is fast enough only for small windows and patterns.
 //
 // Use: scorer [folder]. The folder holds pattern.txt and record.txt.
+//      scorer --many folders out. Each folder in `folders` so; its answer goes
+//      to the file of its name in `out`.
 
 use std::ffi::OsString;
 use std::fs::File;
@@ -732,13 +734,36 @@ fn print_report(pattern: &Pattern, record: &[Piece], out: &mut dyn Write) -> io:
 }
 
 /// A refusal prints one line and no other.
+fn answer(folder: &Path, out: &mut dyn Write) -> io::Result<()> {
+    match judge(folder) {
+        Ok((pattern, record)) => print_report(&pattern, &record, out),
+        Err(Refusal(number)) => writeln!(out, "refused {number}"),
+    }
+}
+
+/// The answer to each folder in `folders`, in a file of the folder's name in `out`.
+fn answer_many(folders: &Path, out: &Path) -> io::Result<()> {
+    for folder in std::fs::read_dir(folders)? {
+        let folder = folder?;
+        let mut file = BufWriter::new(File::create(out.join(folder.file_name()))?);
+        answer(&folder.path(), &mut file)?;
+        file.flush()?;
+    }
+    Ok(())
+}
+
 fn main() {
-    let folder = std::env::args_os().nth(1).unwrap_or_else(|| OsString::from("."));
+    let words: Vec<OsString> = std::env::args_os().skip(1).collect();
+    if words.len() == 3 && words[0] == "--many" {
+        if let Err(error) = answer_many(Path::new(&words[1]), Path::new(&words[2])) {
+            eprintln!("scorer: {error}");
+            std::process::exit(2);
+        }
+        return;
+    }
+    let folder = words.into_iter().next().unwrap_or_else(|| OsString::from("."));
     let mut out = BufWriter::new(io::stdout().lock());
     // Where nobody takes the output there is nobody to tell.
-    let _ = match judge(&PathBuf::from(folder)) {
-        Ok((pattern, record)) => print_report(&pattern, &record, &mut out),
-        Err(Refusal(number)) => writeln!(out, "refused {number}"),
-    };
+    let _ = answer(&PathBuf::from(folder), &mut out);
     let _ = out.flush();
 }

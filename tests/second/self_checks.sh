@@ -1,28 +1,9 @@
-#!/bin/sh
-# Builds the second scorer, the readings and the generator, checks them, and compares their answers to each case.
-#
-#     check.sh BUILD          self-checks; the scorer and the readings on each case
-#     check.sh BUILD WATCH    also the program WATCH, run in the folder of each self-check and each case
-#
-# The last line is `N passed, M failed`; the exit status is 0 only if nothing failed.
-set -u
-here=$(cd "$(dirname "$0")" && pwd)
-[ $# -ge 1 ] || { echo "usage: check.sh BUILD [WATCH]"; exit 2; }
-mkdir -p "$1" && build=$(cd "$1" && pwd) || exit 2
-watch=${2:-}
-[ -z "$watch" ] || watch=$(cd "$(dirname "$watch")" && pwd)/$(basename "$watch")
-for program in scorer readings generate; do
-    rustc --edition 2024 -O -o "$build/$program" "$here/$program.rs" || exit 2
-done
+# The self-checks: texts whose answers document 01 gives, or follow from it by hand, to the scorer and to `watch` alike. To be
+# sourced by `run`.
 
-passed=0
-failed=0
-pass() { passed=$((passed + 1)); }
-fail() { failed=$((failed + 1)); echo "FAILED: $1"; }
-
-# expect NAME PATTERN RECORD ANSWER: the scorer's answer to two texts given here, and WATCH's. The word `missing`
-# leaves the file out, `folder` puts a folder in its place. Every other text gets a last line feed, and the answer too.
-folder=$build/self
+# expect NAME PATTERN RECORD ANSWER: the answer of both programs to two texts given here. The word `missing` leaves the file
+# out, `folder` puts a folder in its place. Every other text gets a last line feed, and the answer too.
+folder=$work/self
 put() {
     case $2 in
     missing) ;;
@@ -31,14 +12,15 @@ put() {
     esac
 }
 expect() {
+    local program got right=1
     rm -rf "$folder" && mkdir "$folder" && cd "$folder" || exit 2
     put pattern.txt "$2"
     put record.txt "$3"
-    for program in "$build/scorer" "$watch"; do
-        [ -n "$program" ] || continue
+    for program in "$cases/scorer" "$watch"; do
         got=$("$program") || got="$got, status $?"
-        if [ "$got" = "$4" ]; then pass; else fail "$1, ${program##*/}: $got"; fi
+        [ "$got" = "$4" ] || { right=0; echo "$1, ${program##*/}: $got"; }
     done
+    if [ "$right" -eq 1 ]; then pass; else fail "$1"; fi
 }
 # swap TEXT FROM TO: the text with one part changed.
 swap() { printf '%s' "$1" | sed "s/$2/$3/"; }
@@ -211,33 +193,3 @@ expect "a long index" "$(swap "$margin" '< 0 15' "< 1$(repeat 30 0) 15")" "$reco
 expect "a long duration" "$margin" "(piece 1$(repeat 30 0) 10)" 'refused 8'
 expect "a long value" "$margin" "(piece 2 1$(repeat 30 0))" 'refused 8'
 expect "a folder for a record" "$margin" folder "$none"
-
-# The cases: the same each time, every kind occurs, and all is as the generator knows it.
-cases=$build/cases.txt
-if "$build/generate" "$cases" >"$build/kinds.txt"; then pass; else fail "the generator"; fi
-if "$build/generate" "$build/again.txt" >/dev/null && cmp -s "$cases" "$build/again.txt"; then pass; else fail "the generator gives other cases each time"; fi
-rm -f "$build/again.txt"
-# each of the generator's kinds occurs, as often as ever
-if cmp -s "$here/kinds.txt" "$build/kinds.txt"; then pass; else fail "the generator's kinds are not those of kinds.txt"; fi
-count=$(tail -n 1 "$build/kinds.txt" | awk '{ print $1 }')
-if [ "$count" -ge 3000 ]; then pass; else fail "$count cases"; fi
-if "$build/readings" --many "$cases" --stats >"$build/stats.txt"; then pass; else fail "see stats.txt"; fi
-cat "$build/stats.txt"
-
-# The scorer on each case; the readings, and the real program, beside it.
-rm -rf "$build/folders"
-"$build/generate" --dirs "$cases" "$build/folders" || exit 2
-"$build/readings" --many "$cases" --answers "$build/folders" || exit 2
-number=0
-while [ $number -lt "$count" ]; do
-    number=$((number + 1))
-    cd "$build/folders/$number" || exit 2
-    "$build/scorer" >expected.txt || { fail "case $number: the scorer ended with status $?"; continue; }
-    if cmp -s expected.txt readings.txt; then pass; else fail "case $number: the readings answer otherwise"; fi
-    [ -n "$watch" ] || continue
-    "$watch" >got.txt 2>/dev/null || { fail "case $number: watch ended with status $?"; continue; }
-    if cmp -s expected.txt got.txt; then pass; else fail "case $number: watch answers otherwise"; fi
-done
-
-echo "$passed passed, $failed failed"
-[ $failed -eq 0 ]

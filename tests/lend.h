@@ -28,7 +28,7 @@ struct lent {
 
 static void lend_fault(const char *what)
 {
-    fprintf(stderr, "hostile: %s\n", what);
+    fprintf(stderr, "lend: %s\n", what);
     exit(2);
 }
 
