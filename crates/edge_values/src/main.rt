@@ -10,5 +10,5 @@ fn main() {
     text_vectors::run();
     value_vectors::run();
     io::write_all(1, b"a pattern without channels\n");
-    call_values::unsound::run();
+    unsound_calls::run();
 }
