@@ -1,10 +1,10 @@
 // Reads pattern.txt and record.txt in the current folder and prints how well the record followed the pattern. Everything
-// that decides is in `watch_steps`; here files are opened and read, and lines written.
+// that decides is in `watch_start` and `watch_steps`; here files are opened and read, and lines written.
 use libc::STDOUT_FILENO;
+use watch_start::start;
 use watch_steps::Watch;
 use watch_steps::is_done;
 use watch_steps::next;
-use watch_steps::start;
 ghost use mathlib.Core.Path.{_≡_};
 ghost use mathlib.Core.Bool.{false};
 ghost use Prim.Native.Nat.{_≤_, _<_};
@@ -53,7 +53,7 @@ fn show_all(text: &[u8], w: Watch, first: &mut [i64], second: &mut [i64], out: &
 }
 
 // The lines for what was read: n bytes in the pattern's buffer, m in the record's. The sizes are those that show a text to be too
-// long (`watch_steps/specs/Claims` BuffersSuffice).
+// long (`watch_start/specs/Claims` BuffersSuffice).
 fn show(pattern: &[u8], n: usize, text: &[u8], m: usize)
     requires { ⌜ (length (now pattern) ≡ patternBuffer) × (Counts n (now pattern)) ⌝ }
     requires { ⌜ (length (now text) ≡ recordBuffer) × (Counts m (now text)) ⌝ }

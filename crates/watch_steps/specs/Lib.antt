@@ -1,5 +1,3 @@
--- What `watch` prints for both texts; then the layer below, of the code that prints it step by step; then what is claimed of
--- all steps together.
+-- What `watch` prints for both texts; then the layer below, of the code that prints it step by step.
 pub mod Watch
 pub mod Steps
-pub mod Claims

@@ -1,33 +1,21 @@
 // What `watch` prints, step by step: each step puts some lines into a buffer, and the next goes on from there.
-use best::Choice;
 use best::Search;
-use lent_state::open_through;
-use monitor::Answer;
-use monitor::State;
 use pattern::Pattern;
 use pattern::Refusal;
-use pattern_read::Outcome;
-use pattern_read::read;
 use record::rules::least;
-use record_read::Checked;
-use record_read::check;
 use record_read::piece_at;
 use watch_feed::feed_rows;
 use watch_text::put_best;
 use watch_text::put_heading;
 use watch_text::put_refused;
 ghost use mathlib.Core.Path.{_≡_};
-ghost use mathlib.Core.Bool.{true, false};
+ghost use mathlib.Core.Bool.{false};
 ghost use Prim.Native.Nat.{ℕ, _+_, _-_, _≤_, _<_, min};
 ghost use lib.ListN.{length, getD};
-ghost use Rattle.pattern.specs.Sound.{soundOf};
-ghost use Rattle.pattern_text.specs.Text.{accepted};
-ghost use Rattle.monitor.specs.State.{noTicks};
-ghost use Rattle.monitor.specs.Open.{openFirst, openSecond};
 ghost use Rattle.monitor.specs.Feed.{feedLengths};
 ghost use Rattle.best.specs.Search.{chosenIn};
 ghost use Rattle.watch_text.specs.Shown.{refusedText, heading, bestText};
-ghost use Rattle.watch_steps.specs.Watch.{bookOfText, answeredWith, watchOf};
+ghost use Rattle.watch_steps.specs.Watch.{bookOfText};
 ghost use Rattle.watch_steps.specs.Steps.{
   isDone,
   dueAt,
@@ -41,8 +29,6 @@ ghost use Rattle.watch_steps.specs.Steps.{
   Stepped,
   ChunkStepped,
   LineStepped,
-  startAt,
-  openedWatch,
 };
 ghost use Rattle.watch_steps.specs.declared.Stage.the-variants.{Rows, Done};
 
@@ -239,89 +225,5 @@ pub fn next(text: &[u8], w: Watch, first: &mut [i64], second: &mut [i64], out: &
             watch: w,
             length: 0,
         },
-    }
-}
-
-fn no_ticks() -> State
-    ensures { λ r. ⌜ r ≡ noTicks ⌝ }
-{
-    State {
-        ticks: 0,
-        last: [0, 0, 0, 0, 0, 0, 0, 0],
-    }
-}
-
-// Nothing read, nothing chosen.
-fn start_at(stage: Stage, p: Pattern, state: State) -> Watch
-    ensures { λ r. ⌜ r ≡ startAt stage p state ⌝ }
-{
-    let cursor = Cursor {
-        at: 0,
-        left: 0,
-        values: [0, 0, 0, 0, 0, 0, 0, 0],
-    };
-    let choice = Choice {
-        end: 0,
-        length: 0,
-        score: 0,
-    };
-    let search = Search {
-        state: state,
-        choice: choice,
-    };
-    Watch {
-        stage: stage,
-        pattern: p,
-        cursor: cursor,
-        search: search,
-    }
-}
-
-// After the opening, which may be refused for its tables.
-fn opened(p: Pattern, first: &mut [i64], second: &mut [i64]) -> Watch
-    ensures { λ r. ⌜ r ≡ openedWatch p (now (first .entry)) (now (second .entry)) ⌝ }
-    ensures { λ _. ⌜ now (first .exit) ≡ openFirst p (now (first .entry)) (now (second .entry)) ⌝ }
-    ensures { λ _. ⌜ now (second .exit) ≡ openSecond p (now (first .entry)) (now (second .entry)) ⌝ }
-{
-    let none = no_ticks();
-    let after = open_through(none, p, first, second);
-    let state = after.state;
-    let answer = after.answer;
-    match answer {
-        Answer::Done => start_at(Stage::Heading, p, state),
-        Answer::Refused(cause) => start_at(Stage::Refused(cause), p, state),
-    }
-}
-
-// The record's text judged, then the tables.
-fn judged(p: Pattern, text: &[u8], first: &mut [i64], second: &mut [i64]) -> Watch
-    requires { ⌜ (soundOf p ≡ true) × (length (now first) ≡ 2048) × (length (now second) ≡ 2048) ⌝ }
-    ensures { λ r. ⌜ dueFor (now (text .entry)) r ≡ answeredWith (accepted p) (now (text .entry)) ⌝ }
-    ensures { λ r. ⌜ Standing (now (text .entry)) r (now (first .exit)) (now (second .exit)) ⌝ }
-{
-    match check(text, p.channels) {
-        Checked::Sound => opened(p, first, second),
-        Checked::Refused(cause) => {
-            let none = no_ticks();
-            start_at(Stage::Refused(cause), p, none)
-        }
-    }
-}
-
-// The start: the pattern's text is judged first.
-pub fn start(pattern: &[u8], text: &[u8], first: &mut [i64], second: &mut [i64]) -> Watch
-    requires { ⌜ (length (now first) ≡ 2048) × (length (now second) ≡ 2048) ⌝ }
-    ensures { λ r. ⌜ dueFor (now (text .entry)) r ≡ watchOf (now (pattern .entry)) (now (text .entry)) ⌝ }
-    ensures { λ r. ⌜ Standing (now (text .entry)) r (now (first .exit)) (now (second .exit)) ⌝ }
-{
-    let given = read(pattern);
-    let p = given.pattern;
-    let outcome = given.outcome;
-    match outcome {
-        Outcome::Accepted => judged(p, text, first, second),
-        Outcome::Refused(cause) => {
-            let none = no_ticks();
-            start_at(Stage::Refused(cause), p, none)
-        }
     }
 }

@@ -6,8 +6,8 @@ use lib.ListN.{length}
 use Rattle.monitor.specs.declared.After.{After}
 use Rattle.monitor.specs.Open.{openRefusal}
 use Rattle.feed_checks.proofs.Accepted.{done, refused-for}
-use Rattle.watch_steps.proofs.opened.Statement.{statement}
-use Rattle.watch_steps.proofs.opened.Tie as tie
+use Rattle.watch_start.proofs.opened.Statement.{statement}
+use Rattle.watch_start.proofs.opened.Tie as tie
 
 no-ticks-requires : tie.Need-no-ticks-requires
 no-ticks-requires c κs = search needs

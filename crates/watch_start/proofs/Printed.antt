@@ -21,11 +21,11 @@ use Rattle.record.specs.Record.{Book}
 use Rattle.watch_text.specs.Shown.{feed, refusedText, shownFor}
 use Rattle.watch_text.specs.Claims.{Shows}
 use Rattle.watch_text.proofs.Right.{shown-right}
 use Rattle.watch_steps.specs.declared.Stage.{Stage}
 use Rattle.watch_steps.specs.declared.Stage.the-variants.{Refused, Heading, Rows, Done}
 use Rattle.watch_steps.specs.Watch.{bookOfText, tablesRefusal, orCause, unlessCause, answeredWith, watchOf}
 use Rattle.watch_steps.specs.Steps.{isDone, dueAt, dueFor, stepsAt, stepsLeft, Standing}
-use Rattle.watch_steps.specs.Claims.{Stand, Made, stands, Follow, leadTo, printed, StepsPrint, PrintedSoFar, StepsEnd, LinesRight, RefusalsAlone}
+use Rattle.watch_start.specs.Claims.{Stand, Made, stands, Follow, leadTo, printed, StepsPrint, PrintedSoFar, StepsEnd, LinesRight, RefusalsAlone}
 
 -- ---- the steps
 

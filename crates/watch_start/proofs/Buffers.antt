@@ -13,8 +13,8 @@ use Rattle.pattern_text.specs.Text.{Answer, accepted, refused, readOf}
 use Rattle.pattern_text.proofs.Tools.{by-test}
 use Rattle.record_text.specs.Text.{recordRefusal}
 use Rattle.watch_text.specs.Shown.{refusedText}
 use Rattle.watch_steps.specs.Watch.{answeredWith, patternBuffer, recordBuffer}
-use Rattle.watch_steps.specs.Claims.{BuffersSuffice}
+use Rattle.watch_start.specs.Claims.{BuffersSuffice}
 
 pattern-long : (t : Bytes) → 8_192 < length t → readOf t ≡ refused TextTooLong
 unfolding readOf

@@ -8,10 +8,10 @@ use Rattle.pattern.specs.Sound.{soundOf}
 use Rattle.pattern_text.specs.Text.{Answer, accepted, refused, readOf}
 use Rattle.pattern_text.proofs.Theorems.{sound-means-read}
 use Rattle.pattern_read.specs.declared.PatternRead.{PatternRead}
 use Rattle.watch_steps.specs.Watch.{answeredWith}
-use Rattle.watch_steps.proofs.Opening.{read-accepted, read-refused}
-use Rattle.watch_steps.proofs.start.Statement.{statement}
-use Rattle.watch_steps.proofs.start.Tie as tie
+use Rattle.watch_start.proofs.Opening.{read-accepted, read-refused}
+use Rattle.watch_start.proofs.start.Statement.{statement}
+use Rattle.watch_start.proofs.start.Tie as tie
 
 read-requires : tie.Need-read-requires
 read-requires c κs = search needs

@@ -4,10 +4,10 @@ use mathlib.Core.Option.{none, some}
 use borrow.Author.Needs.{needs}
 use lib.ListN.{length}
 use Rattle.record_text.specs.Text.{recordRefusal}
 use Rattle.watch_steps.specs.Steps.{dueFor}
-use Rattle.watch_steps.proofs.Opening.{checked-sound, checked-refused, opened-due, opened-standing}
-use Rattle.watch_steps.proofs.judged.Statement.{statement}
-use Rattle.watch_steps.proofs.judged.Tie as tie
+use Rattle.watch_start.proofs.Opening.{checked-sound, checked-refused, opened-due, opened-standing}
+use Rattle.watch_start.proofs.judged.Statement.{statement}
+use Rattle.watch_start.proofs.judged.Tie as tie
 
 check-requires : tie.Need-check-requires
 check-requires c κs = search needs

@@ -1,0 +1,2 @@
+-- What is claimed of all steps of `watch` together.
+pub mod Claims
