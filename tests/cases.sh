@@ -3,6 +3,7 @@
 #     each                       runs a program in many folders (each.c)
 #     cases.txt kinds.txt        the cases, and how many there are of each kind
 #     folders/N                  pattern.txt and record.txt of case N
+#     repeats                    the cases whose files are those of a case before, which count once
 #     expected/N                 what the scorer answers
 #     watched/N                  what `watch` prints, and watched.stderr what it prints to standard error, of all cases
 # To be sourced, in the repository's root.
@@ -22,10 +23,23 @@ build_programs() {
     done
     gcc -std=c11 -O2 -Wall -Wextra -Werror tests/each.c -o "$cases/each"
 }
+# the folders below $1 that have the files of one before it
+repeated() {
+    python3 - "$1" <<'END'
+import pathlib, sys
+seen = set()
+for folder in sorted(pathlib.Path(sys.argv[1]).iterdir()):
+    files = tuple((f.name, f.read_bytes()) for f in sorted(folder.iterdir()))
+    if files in seen:
+        print(folder.name)
+    seen.add(files)
+END
+}
 build_cases() {
     rm -rf "$cases" && mkdir -p "$cases/expected" && build_programs || return
     "$cases/generate" "$cases/cases.txt" >"$cases/kinds.txt" || return
     "$cases/generate" --dirs "$cases/cases.txt" "$cases/folders" || return
+    repeated "$cases/folders" >"$cases/repeats" || return
     "$cases/scorer" --many "$cases/folders" "$cases/expected" && complete "$cases/expected"
 }
 build_watched() {

@@ -5,7 +5,8 @@
  * A data file says its own form (prices.txt has the whole of it). Each case is run three times: with every lent slice in a
  * heap block of exactly its size, at the end of pages of its own, and at their start (lend.h). It passes if each time the
  * answer and every element of every lent slice are what the case says; slices that the interface takes as const must be
- * as they were lent. The last line counts the cases. A file that is not in the form ends the program with status 2. */
+ * as they were lent. The last line counts the cases; one that repeats the call of another, with the same lent and the same
+ * due, is run and not counted. A file that is not in the form ends the program with status 2. */
 #define _DEFAULT_SOURCE
 #include <inttypes.h>
 #include <signal.h>
@@ -608,9 +609,35 @@ static void step_past(int signal)
     _exit(1);
 }
 
+static int same_list(const struct list *a, const struct list *b)
+{
+    return a->count == b->count && (a->count == 0 || memcmp(a->numbers, b->numbers, a->count * sizeof *a->numbers) == 0);
+}
+
+static int same_case(const struct one_case *a, const struct one_case *b)
+{
+    if (a->call != b->call || memcmp(a->answer, b->answer, sizeof a->answer) != 0)
+        return 0;
+    for (int part = 0; part < PARTS; part++)
+        if (!same_list(&a->lent[part], &b->lent[part]) ||
+            !same_list(a->unchanged[part] ? &a->lent[part] : &a->after[part],
+                       b->unchanged[part] ? &b->lent[part] : &b->after[part]))
+            return 0;
+    return 1;
+}
+
+/* Whether a case before it is the same; what was lent `as left` is known once the cases have run. */
+static int repeats(size_t i)
+{
+    for (size_t j = 0; j < i; j++)
+        if (same_case(&cases[i], &cases[j]))
+            return 1;
+    return 0;
+}
+
 int main(int argc, char **argv)
 {
-    size_t failed = 0;
+    size_t failed = 0, repeated = 0;
 
     for (int i = 1; i < argc; i++)
         read_file(argv[i]);
@@ -627,8 +654,12 @@ int main(int argc, char **argv)
             run_case(&cases[i], where);
     for (int part = 0; part < PARTS; part++)
         lend_end(&blocks[part]);
-    for (size_t i = 0; i < case_count; i++)
+    for (size_t i = 0; i < case_count; i++) {
         failed += (size_t)cases[i].failed;
-    printf("%zu passed, %zu failed\n", case_count - failed, failed);
+        repeated += (size_t)(!cases[i].failed && repeats(i));
+    }
+    if (repeated > 0)
+        printf("%zu cases repeat another\n", repeated);
+    printf("%zu passed, %zu failed\n", case_count - failed - repeated, failed);
     return failed != 0;
 }

@@ -21,7 +21,7 @@ abbrev pub countedCells : Counted → ℕ
 countedCells (counted.the-variants.Cells n) = n
 countedCells (counted.the-variants.Refused r) = 0
 
--- the refusal's number, and the score; "a value that must stand beside it is zeros throughout"
+-- the refusal's number, and the score, 0 beside a refusal
 abbrev pub priceTold : Priced → RunPrice
 priceTold (priced.Score w) = record { refusal = 0; score = w }
 priceTold (priced.Refused r) = record { refusal = numberOf r; score = pos 0 }

@@ -1,5 +1,5 @@
 -- The answer to a text is its outcome.
-use Prim.Native.Nat.{ℕ, _≤_}
+use Prim.Native.Nat.{ℕ, _≤_, _<_}
 use mathlib.Core.Path.{_≡_, refl, sym, ap, subst, _∙_}
 use mathlib.Core.Option.{Option, none, some}
 use mathlib.Core.List.{[], _∷_, _++_, append-nil, append-assoc}
@@ -29,12 +29,21 @@ read-prefix (onemore {t = t} {s = s} b l h p q) w =
     rw (append-assoc t (b ++ bytes "\n") w)
     (read-prefix h (b ++ bytes "\n" ++ w) ∙ rw (cut b w (rw (form b l .0 p) (line-flat l)), p, q) refl)
 
+-- over the limit of bytes, and within it
+pub over : (t : Bytes) → 8_192 < length t → readOf t ≡ refused TextTooLong
+unfolding readOf
+over t h = ap (λ (b : Bool). cond b (refused TextTooLong) (readLines none (linesOf t))) (lt-ltb 8_192 (length t) h)
+
+within : (t : Bytes) → length t ≤ 8_192 → readOf t ≡ readLines none (linesOf t)
+unfolding readOf
+within t h = ap (λ (b : Bool). cond b (refused TextTooLong) (readLines none (linesOf t))) (le-ltb 8_192 (length t) h)
+
 answer : (t : Bytes) (a : Answer) → Outcome t a → readOf t ≡ a
-unfolding readOf readLines linesOf
-answer t a (long h) = rw (lt-ltb 8_192 (length t) h) refl
-answer t a (faulty s u b r m h f e q) = rw (le-ltb 8_192 (length t) m) (rw e (read-prefix h (b ++ bytes "\n" ++ r) ∙ rw (cut b r f, q) refl))
-answer t a (unended s u c b m h f e) = rw (le-ltb 8_192 (length t) m) (rw e (read-prefix h (c ∷ b) ∙ rw (uncut (c ∷ b) f) refl))
-answer t a (whole s m h) = rw (le-ltb 8_192 (length t) m) (ap (λ (x : Bytes). readLines none (linesOf x)) (sym (append-nil t)) ∙ read-prefix h [])
+unfolding readLines linesOf
+answer t a (long h) = over t h
+answer t a (faulty s u b r m h f e q) = within t m ∙ rw e (read-prefix h (b ++ bytes "\n" ++ r) ∙ rw (cut b r f, q) refl)
+answer t a (unended s u c b m h f e) = within t m ∙ rw e (read-prefix h (c ∷ b) ∙ rw (uncut (c ∷ b) f) refl)
+answer t a (whole s m h) = within t m ∙ ap (λ (x : Bytes). readLines none (linesOf x)) (sym (append-nil t)) ∙ read-prefix h []
 
 -- ---- the answer is an outcome
 

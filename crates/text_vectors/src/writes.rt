@@ -33,6 +33,15 @@ pub fn leaves(bytes: &[u8], p: Pattern, room: usize, due: u64) -> bool {
     (answer(w) == due) & check::same(&whole, &out)
 }
 
+// Whether a write has room enough in 8,192 bytes.
+pub fn fits(p: Pattern) -> bool {
+    let mut out = [b'#'; 8192];
+    match pattern_write::write(p, &mut out) {
+        Written::Length(_) => true,
+        Written::Refused(_) => false,
+    }
+}
+
 fn one_less(n: usize) -> usize {
     if n < 1 { 0 } else { n - 1 }
 }

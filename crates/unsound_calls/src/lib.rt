@@ -71,7 +71,8 @@ fn opened(p: Pattern) {
     judge_kept(same_state(s, used) & holds(&first, 5, MARK) & holds(&second, 6, 7));
 }
 
-// A state with a value in an unused channel, a piece of 0 ticks without values, a cell past the limit and a report place.
+// A state with a value in an unused channel and no tick left, a piece of 65,536 ticks without values, a cell past the limit, and
+// reports of two places and of one.
 fn fed(p: Pattern) {
     let mut first: [i64; 2] = [32760000001, MARK];
     let mut second: [i64; 2] = [6, 7];
@@ -87,7 +88,7 @@ fn fed(p: Pattern) {
         p,
         &mut first,
         &mut second,
-        0,
+        65536,
         &values,
         &mut scores,
         &mut lengths,

@@ -14,6 +14,7 @@ use text_vectors::low_byte;
 use text_vectors::next_line;
 use text_vectors::numeral_at;
 use text_vectors::print;
+use text_vectors::writes::fits;
 use text_vectors::writes::leaves;
 use values::with_counts;
 use values::with_edge;
@@ -166,10 +167,18 @@ fn count_answer(p: Pattern) -> u64 {
     }
 }
 
-// Whether the value is counted, or a count and writes refuse it.
+// Whether writes take the value, or refuse it: with room for its text, and with none, where a sound value is 6.
+fn written(p: Pattern, due: u64) -> bool {
+    if due == 0 {
+        fits(p) & leaves(b"", p, 0, 6)
+    } else {
+        leaves(b"", p, 8192, due) & leaves(b"", p, 0, due)
+    }
+}
+
+// Whether a count and writes answer as is due.
 fn judged(p: Pattern, due: u64) -> bool {
-    let refused = leaves(b"", p, 8192, 7) & leaves(b"", p, 0, 7);
-    (count_answer(p) == due) & (refused == (due == 7))
+    (count_answer(p) == due) & written(p, due)
 }
 
 // The row's numbers, from the mark on.

@@ -1,5 +1,5 @@
 -- The test of two states, and what the opening table holds.
-use mathlib.Core.Path.{_≡_, sym}
+use mathlib.Core.Path.{_≡_, sym, ap}
 use mathlib.Core.Bool.{Bool, true, false, cond, _&&_}
 use mathlib.Core.Option.{none, some, Option·some-injective, Option·none-ne-some}
 use Prim.Native.Nat.{ℕ}
@@ -29,7 +29,7 @@ module _ {W C E : Type 0} (𝓦 : Weighting W) (A : Automaton C E) (Q : Same C) 
   opening-starts p h =
       let e : A .isStart p && sameState Q (entering A p) (entering A p) ≡ true =
       T-true (A .isStart p && sameState Q (entering A p) (entering A p)) (and-in (A .isStart p) (sameState Q (entering A p) (entering A p)) h (same-self Q (entering A p))) in
-      rw e
+      ap (λ (b : Bool). cond b (some (𝓦 .unit)) none) e
 
   -- what is held at the opening has just begun
   pub opening-holds : (s : State C) (w : W) → opening 𝓦 A Q s ≡ some w → T (A .isStart (s .place)) × (s ≡ entering A (s .place)) × (w ≡ 𝓦 .unit)

@@ -10,8 +10,8 @@ ghost use mathlib.Core.Bool.{false};
 ghost use Prim.Native.Nat.{_≤_, _<_};
 ghost use lib.ListN.{length};
 ghost use Rattle.io.specs.Counts.{Counts};
-ghost use Rattle.watch_steps.specs.Watch.{patternBuffer, recordBuffer};
 ghost use Rattle.watch_steps.specs.Steps.{isDone, stepsLeft, Standing};
+ghost use Rattle.watch_start.specs.Buffers.{patternBuffer, recordBuffer};
 
 // The bytes of a file, as many as the buffer takes; none if it cannot be opened.
 fn read_file(path: &[u8], buffer: &mut [u8]) -> usize

@@ -11,21 +11,19 @@ use Rattle.pattern.specs.declared.Refusal.the-variants.{TextTooLong}
 use Rattle.pattern_text.specs.Bytes.{Bytes}
 use Rattle.pattern_text.specs.Text.{Answer, accepted, refused, readOf}
 use Rattle.pattern_text.proofs.Tools.{by-test}
+use Rattle.pattern_text.proofs.Answers.{over}
 use Rattle.record_text.specs.Text.{recordRefusal}
 use Rattle.watch_text.specs.Shown.{refusedText}
-use Rattle.watch_steps.specs.Watch.{answeredWith, patternBuffer, recordBuffer}
+use Rattle.watch_steps.specs.Watch.{answeredWith}
+use Rattle.watch_start.specs.Buffers.{patternBuffer, recordBuffer}
 use Rattle.watch_start.specs.Claims.{BuffersSuffice}
-
-pattern-long : (t : Bytes) → 8_192 < length t → readOf t ≡ refused TextTooLong
-unfolding readOf
-pattern-long t h = rw (lt-ltb 8_192 (length t) h) refl
 
 pattern-cut : (t : Bytes) → readOf (take patternBuffer t) ≡ readOf t
 pattern-cut t = by-test (ltb 8_192 (length t))
     (λ e.
     let long = ltb-true 8_192 (length t) e in
     let held = length-take patternBuffer t in
-    pattern-long (take patternBuffer t) (omega arith) ∙ sym (pattern-long t long))
+    over (take patternBuffer t) (omega arith) ∙ sym (over t long))
     (λ e. let short = ltb-false 8_192 (length t) e in ap readOf (take-all patternBuffer t (omega arith)))
 
 record-long : (p : Pattern) (t : Bytes) → 16_384 < length t → answeredWith (accepted p) t ≡ refusedText TextTooLong

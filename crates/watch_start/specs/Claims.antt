@@ -17,8 +17,9 @@ use Rattle.watch_text.specs.Shown.{feed, refusedText}
 use Rattle.watch_text.specs.Claims.{Shows}
 use Rattle.watch_steps.specs.declared.Watch.{Watch}
 use Rattle.watch_steps.specs.declared.Step.{Step}
-use Rattle.watch_steps.specs.Watch.{bookOfText, watchOf, patternBuffer, recordBuffer}
+use Rattle.watch_steps.specs.Watch.{bookOfText, watchOf}
 use Rattle.watch_steps.specs.Steps.{isDone, dueFor, stepsLeft, Standing, Stepped}
+use Rattle.watch_start.specs.Buffers.{patternBuffer, recordBuffer}
 
 -- ---- the steps, by the promises of `start` and `next`
 

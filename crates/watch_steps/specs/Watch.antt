@@ -1,5 +1,5 @@
 -- What `watch` prints, by the texts of pattern.txt and of record.txt (document 01, 'The watch program').
-use Prim.Native.Nat.{ℕ, _+_}
+use Prim.Native.Nat.{ℕ}
 use mathlib.Core.List.{List, []}
 use mathlib.Core.Option.{Option, none, some}
 use mathlib.Core.Bool.{cond}
@@ -45,13 +45,3 @@ answeredWith (accepted p) t =
 
 abbrev pub watchOf : (pattern text : Bytes) → Bytes
 watchOf pt t = answeredWith (readOf pt) t
-
--- ---- the files, as the program reads them
-
--- Of each file it reads as many bytes as a buffer takes: one byte more than a text may have shows that it is too long ("over
--- 8,192 bytes", `pattern_text/specs/Text` readOf; "over 16,384 bytes", `record_text/specs/Text` recordRefusal).
-abbrev pub patternBuffer : ℕ
-patternBuffer = 1 + 8_192
-
-abbrev pub recordBuffer : ℕ
-recordBuffer = 1 + 16_384

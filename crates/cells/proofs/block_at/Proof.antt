@@ -6,6 +6,11 @@ use Rattle.cells.proofs.Blocks.{in-table}
 use Rattle.cells.proofs.block_at.Statement.{statement}
 use Rattle.cells.proofs.block_at.Tie as tie
 
+-- What is promised stands first, so that a wrong body is refused there (decision 64).
+returns : tie.Need-returns
+unfolding blockAt
+returns c = refl
+
 mul-result : tie.Need-mul-result
 mul-result c = let s = c .before in
     let h = in-table (s .args .l) (s .args .n) (s .args .stage) (s .args .p) (s .pre) in
@@ -35,10 +40,6 @@ add-result-2 c = let s = c .before .before .before in
     let h = in-table (s .args .l) (s .args .n) (s .args .stage) (s .args .p) (s .pre) in
     let laid = s .pre .laid in
     omega arith
-
-returns : tie.Need-returns
-unfolding blockAt
-returns c = refl
 
 pub block-at-spec : {M : Type 1} → statement M
 block-at-spec =

@@ -4,6 +4,10 @@ use borrow.Author.Needs.{needs}
 use Rattle.pattern.proofs.cells_needed.Statement.{statement}
 use Rattle.pattern.proofs.cells_needed.Tie as tie
 
+-- What is promised stands first, so that a wrong body is refused there (decision 64).
+returns : tie.Need-returns
+returns c = rw (c .radices .ensures) (needed-is (c .before .before .before .args .p) (c .before .before .before .pre))
+
 cast-result : tie.Need-cast-result
 cast-result c = search needs
 
@@ -24,9 +28,6 @@ radices-requires c κs = search needs
 
 mul-result-3 : tie.Need-mul-result-3
 mul-result-3 c = rw (c .radices .ensures) (record { fits = all-low (c .before .before .before .args .p) (c .before .before .before .pre) })
-
-returns : tie.Need-returns
-returns c = rw (c .radices .ensures) (needed-is (c .before .before .before .args .p) (c .before .before .before .pre))
 
 pub cells-needed-spec : {M : Type 1} → statement M
 cells-needed-spec =

@@ -19,6 +19,23 @@ use Rattle.table.proofs.visit.Tie as tie
 four : (c : tie.Start) → length (c .args .clocks) ≡ 4
 four c = c .good .1 .1 .1 .1 .1 .1 .0 .1 .0 .1
 
+-- What is promised stands first, so that a wrong body is refused there (decision 64).
+returns : tie.Need-returns
+returns c =
+    let st = c .before .before .before .before .before .before .before in
+    let a = st .args in
+    let h = st .pre in
+    let x = c .before .before .before .before .before .combine .result in
+    let q = toZ-ofZ (st .fits .gain) in
+    let p = toZ-ofZ (st .fits .worth) in
+    let f : x ≡ weightingOf (a .w) .combine (a .worth) (a .gain) = simp (p, q) at (c .before .before .before .before .before .combine .ensures) in
+    let k : toZ w64 (ofZ w64 x) ≡ x = toZ-ofZ {w = w64} {z = x} (record { sfits = c .before .before .before .before .before .combine .ok }) in
+    let e = c .before .before .before .before .before .before .tick-clocks .ensures in
+    let to = c .before .before .before .before .block-at .ensures in
+    let resets = sym (still-resets (a .p) (c .before .before .before .before .before .before .tick-clocks .result) (rw e (ticked-long (a .l) (a .clocks) (h .laid) (four st)))) in
+    let m = moved-is (a .l) (a .w) _ _ (c .before .before .before .before .before .before .tick-clocks .result) _ x _ (a .table .now) _ (still-goes (a .p) (c .before .before .before .before .before .before .tick-clocks .result)) resets (c .before .before .before .code .ensures) (rw k at (c .before .offer .ensures)) in
+    (sent-is (a .l) (a .w) (a .gain) (a .n) (a .p) (a .clocks) _ (a .worth) x _ e f k, stay-is (a .l) (a .w) (a .gain) (a .n) (a .p) (a .clocks) (a .worth) (a .table .now) _ x _ _ _ e f refl to m)
+
 -- the cell lies in the table
 inside : (c : tie.After-offer-arg) → c .before .before .block-at .result + c .before .code .result < length (c .before .before .before .before .before .args .table .now)
 inside c =
@@ -66,22 +83,6 @@ offer-requires c κs =
 
 same-length : tie.Need-same-length
 same-length c = search needs
-
-returns : tie.Need-returns
-returns c =
-    let st = c .before .before .before .before .before .before .before in
-    let a = st .args in
-    let h = st .pre in
-    let x = c .before .before .before .before .before .combine .result in
-    let q = toZ-ofZ (st .fits .gain) in
-    let p = toZ-ofZ (st .fits .worth) in
-    let f : x ≡ weightingOf (a .w) .combine (a .worth) (a .gain) = simp (p, q) at (c .before .before .before .before .before .combine .ensures) in
-    let k : toZ w64 (ofZ w64 x) ≡ x = toZ-ofZ {w = w64} {z = x} (record { sfits = c .before .before .before .before .before .combine .ok }) in
-    let e = c .before .before .before .before .before .before .tick-clocks .ensures in
-    let to = c .before .before .before .before .block-at .ensures in
-    let resets = sym (still-resets (a .p) (c .before .before .before .before .before .before .tick-clocks .result) (rw e (ticked-long (a .l) (a .clocks) (h .laid) (four st)))) in
-    let m = moved-is (a .l) (a .w) _ _ (c .before .before .before .before .before .before .tick-clocks .result) _ x _ (a .table .now) _ (still-goes (a .p) (c .before .before .before .before .before .before .tick-clocks .result)) resets (c .before .before .before .code .ensures) (rw k at (c .before .offer .ensures)) in
-    (sent-is (a .l) (a .w) (a .gain) (a .n) (a .p) (a .clocks) _ (a .worth) x _ e f k, stay-is (a .l) (a .w) (a .gain) (a .n) (a .p) (a .clocks) (a .worth) (a .table .now) _ x _ _ _ e f refl to m)
 
 pub visit-spec : {M : Type 1} → statement M
 visit-spec =
