@@ -199,10 +199,10 @@ module _ {M : Type 1} (𝓤 : URA M) (H : Heap 𝓤) (A : Atoms 𝓤) (W : Given
         -- [the last values; the rest's tokens; the state's cell; the open borrow; obs; auth; _19 at 6; …; _0 at 44]. What the core returned lands in _10, and is written out field by field
         land ! (from ! (stop !)) (init ! 24 refl (LL.lawful R.the-type R′.the-laws 𝓤 H A W .typed r _ is .0)) $
         rewrite ! 24 (λ (us : List Val). ‵ (fat fullShare R′.mir l₁₀ zero (only us))) (LL.tells R.the-type R′.the-laws r (v ∷ []) is) refl $
-        -- _11 = _10.0; *_1 = _11; _0 = _10.1
-        assigns ! (of-opd ! (load ! (from ! (fld ! refl (stop !))) (look-in ! 24 (sub ! 0 refl (whole !))))) (from ! (stop !)) (init ! 22 refl (LL.lawful S.the-type S′.the-laws 𝓤 H A W .typed (r .state) _ (new .0) .0)) $
+        -- _11 = _10.0; *_1 = _11; _0 = _10.1. A field's type and its first byte are given: antt would write them out at length
+        assigns ! (of-opd ! (load ! (from ! (fld ! {τ = S′.mir} {d = 0} refl (stop !))) (look-in ! 24 {τ = S′.mir} (sub ! 0 {τ = S′.mir} {d = 0} refl (whole !))))) (from ! (stop !)) (init ! 22 refl (LL.lawful S.the-type S′.the-laws 𝓤 H A W .typed (r .state) _ (new .0) .0)) $
         assigns ! (of-opd ! (load ! (from ! (stop !)) (look ! 22 refl))) (from ! (hop ! (look ! 42 refl) (stop !))) (store-raw ! 2 refl (LL.lawful S.the-type S′.the-laws 𝓤 H A W .typed (r .state) _ (new .0) .0)) $
-        assigns ! (of-opd ! (load ! (from ! (fld ! refl (stop !))) (look-in ! 24 (sub ! 1 refl (whole !))))) (from ! (stop !)) (init ! 44 refl (EE.lawful E.the-type E′.the-laws 𝓤 H A W tt .typed (r .answer) _ (new .1 .0) .0)) $
+        assigns ! (of-opd ! (load ! (from ! (fld ! {τ = E′.mir} {d = 36} refl (stop !))) (look-in ! 24 {τ = E′.mir} (sub ! 1 {τ = E′.mir} {d = 36} refl (whole !))))) (from ! (stop !)) (init ! 44 refl (EE.lawful E.the-type E′.the-laws 𝓤 H A W tt .typed (r .answer) _ (new .1 .0) .0)) $
         owned ! S.the-row (Is S.the-row) (LL.makes S.the-type S′.the-plain 𝓤 H A) (r .state) _ (new .0) $ move ! (3 ∷ 0 ∷ 4 ∷ 5 ∷ 6 ∷ []) $ closes ! tt S.the-row (r .state) (LL.vals S.the-type S′.the-laws (r .state)) b o $
         -- [obs; the borrow; its token; the last values; the rest's tokens; _19 at 5; …; _0 at 43]
         returns ! (look ! 43 refl) $ gone ! 43 refl refl $ gone ! 41 refl refl $ gone ! 39 refl refl $ gone ! 37 refl refl $ gone ! 35 refl refl $ gone ! 33 refl refl $ gone ! 31 refl refl $ gone ! 29 refl refl $ gone ! 27 refl refl $ gone ! 25 refl refl $ gone ! 23 refl refl $ gone ! 21 refl refl $ gone ! 19 refl refl $ gone ! 17 refl refl $ gone ! 15 refl refl $ gone ! 13 refl refl $ gone ! 11 refl refl $ gone ! 9 refl refl $ gone ! 7 refl refl $ gone ! 5 refl refl $ free0 ! $

@@ -298,14 +298,15 @@ module _ {M : Type 1} (𝓤 : URA M) (H : Heap 𝓤) (A : Atoms 𝓤) (W : Given
         qed W (Mid l₀ l₁ l₂ l₃ l₄ l₅ l₆ l₇ x b) ∵ exec ! (𝓣 .C) (𝓣 .Λ) (En l₀ l₁ l₂ l₃ l₄ l₅ l₆ l₇) line (anyQ (afterTurn 𝓤 H (Below 𝓤 H A Nearer (At l₀ l₁ l₂ l₃ l₄ l₅ l₆ l₇) x) Q)) $
         assigns ! (of-opd ! (load ! (from ! (stop !)) (look ! 12 refl))) (from ! (stop !)) (init ! 4 refl (typed-r 𝓤 H A W κ (x .r) (x .u) (x .is-r))) $
         move ! (1 ∷ []) $ use1 W (‵ (Own κ (x .r) (x .u)) ⊛ ‵ (Own κ (x .r) (x .u))) (twice 𝓤 H A W κ (x .r) (x .u)) $ split ! $ move ! (0 ∷ 2 ∷ []) $ use2 W (raw (Next 𝓤 H A mem run .pre (to-next x))) (goes-next x) $
-        calls-at ! fm (Next 𝓤 H A mem run) known-next (to-next x) (and-then ! (load ! (from ! (stop !)) (look ! 4 refl)) (and-then ! (load ! (from ! (fld ! refl (stop !))) (look-in ! 10 (sub ! 1 refl (whole !)))) (and-then ! (load ! (from ! (fld ! refl (stop !))) (look-in ! 10 (sub ! 2 refl (whole !)))) (no-more !)))) (λ w′.
+        -- a field's type and its first byte are given: antt would write them out at length
+        calls-at ! fm (Next 𝓤 H A mem run) known-next (to-next x) (and-then ! (load ! (from ! (stop !)) (look ! 4 refl)) (and-then ! (load ! (from ! (fld ! {τ = G′.mir} {d = 8} refl (stop !))) (look-in ! 10 {τ = G′.mir} (sub ! 1 {τ = G′.mir} {d = 8} refl (whole !)))) (and-then ! (load ! (from ! (fld ! {τ = P′.mir} {d = 12} refl (stop !))) (look-in ! 10 {τ = P′.mir} (sub ! 2 {τ = P′.mir} {d = 12} refl (whole !)))) (no-more !)))) (λ w′.
         use1 W (later (some (λ (s′ : State). (Token ⊛ ‵ (S.the-row .own s′ (w′ ∷ []))) ⊛ raw (ensured 𝓤 H A next.ended (next.clauses 𝓤 H A mem run) (κ, tt) (x .r, rest x) tt s′)))) (id⊢ 𝓤 _) $ await ! tt $ pick ! (λ s′.
         split ! $ move ! (1 ∷ []) $ use1 W (raw (fact 𝓤 (s′ ≡ turned (now (x .r .text)) (x .s .stage) (x .r .at) (x .s .pattern)))) (next-said x s′) $ heard ! (s′ ≡ turned (now (x .r .text)) (x .s .stage) (x .r .at) (x .s .pattern)) (λ h. split ! $ move ! (1 ∷ []) $
         facts ! S.the-row (Is S.the-row) (shows 𝓤 H A S.the-row) s′ (w′ ∷ []) (λ iss. land ! (from ! (stop !)) (store ! 10 refl (typed-s s′ w′ iss)) $
         rewrite ! 10 (λ (us : List Val). ‵ (fat fullShare S′.mir l₃ 0 (only us))) (LL.tells S.the-type S′.the-laws s′ (w′ ∷ []) iss) refl $
         assigns ! (of-opd ! (load ! (from ! (stop !)) (look ! 12 refl))) (from ! (stop !)) (init ! 2 refl (typed-r 𝓤 H A W κ (x .r) (x .u) (x .is-r))) $
         move ! (1 ∷ 0 ∷ []) $ use2 W (raw (Moved 𝓤 H A mem run .pre (to-moved 𝓤 H A W mem run κ q (x .r) (x .u) (s′ .at)))) (goes-moved 𝓤 H A W mem run κ q (x .r) (x .u) (s′ .at) (LL.owed S.the-type S′.the-laws s′ _ (spelt-is s′ w′ iss) .0 .1)) $
-        calls-at-last ! fm (Moved 𝓤 H A mem run) known-moved (to-moved 𝓤 H A W mem run κ q (x .r) (x .u) (s′ .at)) (and-then ! (load ! (from ! (stop !)) (look ! 1 refl)) (and-then ! (load ! (from ! (fld ! refl (stop !))) (look-in ! 9 (sub ! 0 refl (whole !)))) (no-more !))) (λ u′.
+        calls-at-last ! fm (Moved 𝓤 H A mem run) known-moved (to-moved 𝓤 H A W mem run κ q (x .r) (x .u) (s′ .at)) (and-then ! (load ! (from ! (stop !)) (look ! 1 refl)) (and-then ! (load ! (from ! (fld ! {τ = tyInt w64} {d = 0} refl (stop !))) (look-in ! 9 {τ = tyInt w64} (sub ! 0 {τ = tyInt w64} {d = 0} refl (whole !)))) (no-more !))) (λ u′.
         use1 W (later (some (λ (r′ : Reader). (Token ⊛ ‵ (Own κ r′ u′)) ⊛ raw (ensured 𝓤 H A moved.ended (moved.clauses 𝓤 H A mem run) (κ, tt) (x .r, (s′ .at, tt)) tt r′)))) (id⊢ 𝓤 _) $ await ! tt $ pick ! (λ r′.
         split ! $ move ! (1 ∷ []) $ use1 W (raw (fact 𝓤 ((r′ .text ≡ x .r .text) × (r′ .at ≡ s′ .at)))) (moved-said 𝓤 H A W mem run κ q (x .r) (x .u) (s′ .at) r′) $ heard ! ((r′ .text ≡ x .r .text) × (r′ .at ≡ s′ .at)) (λ e′. split ! $ move ! (1 ∷ []) $
         peeks ! (B (κ, tt)) (Is (B (κ, tt))) (shows 𝓤 H A (B (κ, tt))) r′ (u′ ∷ []) (λ is′. land-last ! (from ! (stop !)) (store ! 12 refl (typed-r 𝓤 H A W κ r′ u′ is′)) $
