@@ -23,13 +23,13 @@ build_programs() {
     done
     gcc -std=c11 -O2 -Wall -Wextra -Werror tests/each.c -o "$cases/each"
 }
-# the folders below $1 that have the files of one before it
+# repeated FOLDER..: the folders below these that have the files of one before it
 repeated() {
-    python3 - "$1" <<'END'
+    python3 - "$@" <<'END'
 import pathlib, sys
 seen = set()
-for folder in sorted(pathlib.Path(sys.argv[1]).iterdir()):
-    files = tuple((f.name, f.read_bytes()) for f in sorted(folder.iterdir()))
+for folder in [f for parent in sys.argv[1:] for f in sorted(pathlib.Path(parent).iterdir())]:
+    files = tuple((f.name, f.read_bytes() if f.is_file() else None) for f in sorted(folder.iterdir()))
     if files in seen:
         print(folder.name)
     seen.add(files)

@@ -3,7 +3,9 @@
 
 # expect NAME PATTERN RECORD ANSWER: the answer of both programs to two texts given here. The word `missing` leaves the file
 # out, `folder` puts a folder in its place. Every other text gets a last line feed, and the answer too.
-folder=$work/self
+# The folders of all of them stay below $work/selves.
+mkdir "$work/selves" || exit 2
+selves=0
 put() {
     case $2 in
     missing) ;;
@@ -13,7 +15,8 @@ put() {
 }
 expect() {
     local program got right=1
-    rm -rf "$folder" && mkdir "$folder" && cd "$folder" || exit 2
+    selves=$((selves + 1))
+    mkdir "$work/selves/self$selves" && cd "$work/selves/self$selves" || exit 2
     put pattern.txt "$2"
     put record.txt "$3"
     for program in "$cases/scorer" "$watch"; do

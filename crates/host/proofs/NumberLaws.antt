@@ -10,7 +10,7 @@ use Rattle.pattern_text.specs.Bytes.{Bytes}
 use Rattle.pattern_text.specs.Text.{Answer, accepted, refused, readOf}
 use Rattle.pattern_text.proofs.Theorems.{texts-exact}
 use Rattle.pattern_read.specs.Reading.{readingOf}
-use Rattle.pattern_text.proofs.Answers.{refusal-numbers}
+use Rattle.pattern_text.proofs.Stops.{refusal-numbers}
 use Rattle.pattern.proofs.Claims.{some-cell}
 use Rattle.host_told.specs.Told.{outcomeNumber, countedCells}
 use Rattle.host.specs.Numbers.{checkOf, countOf, NumbersTell}

@@ -85,10 +85,10 @@ pub distances-in-range : DistancesInRange
 distances-in-range t v b h = by (t .sign)
   where
     by : (s : Sign) → natAbs (distanceFrom s (t .bound) v) ≤ 2_000_000
-    by Less = omega (arith, abs-sub (t .bound) v)
-    by AtMost = omega (arith, abs-sub (t .bound) v)
-    by More = omega (arith, abs-sub v (t .bound))
-    by AtLeast = omega (arith, abs-sub v (t .bound))
+    by Less = omega (arith, abs-sub (t .bound) v, abs-sub v (t .bound))
+    by AtMost = omega (arith, abs-sub (t .bound) v, abs-sub v (t .bound))
+    by More = omega (arith, abs-sub (t .bound) v, abs-sub v (t .bound))
+    by AtLeast = omega (arith, abs-sub (t .bound) v, abs-sub v (t .bound))
 
 -- the least of a and a list: a itself or one of the list, and no more than any of them
 least-one : (a : ℤ) (l : List ℤ) → (combineFrom margin a l ≡ a) ⊎ List·Memᴰ (combineFrom margin a l) l

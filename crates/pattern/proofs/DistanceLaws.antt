@@ -49,10 +49,10 @@ pub distance-size : (t : Test) (v : ℤ) → SFits w32 v → SFits w32 (t .bound
 distance-size t v p q = by (t .sign)
   where
     by : (s : Sign) → natAbs (distanceFrom s (t .bound) v) ≤ 2 ^ 32
-    by Less = omega (arith, abs-sub (t .bound) v, fits-abs w32 v p, fits-abs w32 (t .bound) q)
-    by AtMost = omega (arith, abs-sub (t .bound) v, fits-abs w32 v p, fits-abs w32 (t .bound) q)
-    by More = omega (arith, abs-sub v (t .bound), fits-abs w32 v p, fits-abs w32 (t .bound) q)
-    by AtLeast = omega (arith, abs-sub v (t .bound), fits-abs w32 v p, fits-abs w32 (t .bound) q)
+    by Less = omega (arith, abs-sub (t .bound) v, abs-sub v (t .bound), fits-abs w32 v p, fits-abs w32 (t .bound) q)
+    by AtMost = omega (arith, abs-sub (t .bound) v, abs-sub v (t .bound), fits-abs w32 v p, fits-abs w32 (t .bound) q)
+    by More = omega (arith, abs-sub (t .bound) v, abs-sub v (t .bound), fits-abs w32 v p, fits-abs w32 (t .bound) q)
+    by AtLeast = omega (arith, abs-sub (t .bound) v, abs-sub v (t .bound), fits-abs w32 v p, fits-abs w32 (t .bound) q)
 
 -- ---- a place's worth, test by test
 

@@ -10,5 +10,6 @@ pub mod Resets
 pub mod Value
 pub mod Size
 pub mod Answers
+pub mod Stops
 pub mod Theorems
 pub mod ForCode
