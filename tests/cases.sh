@@ -4,6 +4,7 @@
 #     cases.txt kinds.txt        the cases, and how many there are of each kind
 #     folders/N                  pattern.txt and record.txt of case N
 #     repeats                    the cases whose files are those of a case before, which count once
+#     sums                       a case's number behind the sums of its files (sums_of), for each case
 #     expected/N                 what the scorer answers
 #     watched/N                  what `watch` prints, and watched.stderr what it prints to standard error, of all cases
 # To be sourced, in the repository's root.
@@ -23,23 +24,24 @@ build_programs() {
     done
     gcc -std=c11 -O2 -Wall -Wextra -Werror tests/each.c -o "$cases/each"
 }
-# repeated FOLDER..: the folders below these that have the files of one before it
-repeated() {
+# sums_of FOLDER..: for each folder below these, the sums of its pattern.txt and record.txt, and its name; a file that is not
+# there, and one that is no file, have a word in the place of a sum
+sums_of() {
     python3 - "$@" <<'END'
-import pathlib, sys
-seen = set()
+import hashlib, pathlib, sys
+def sum_of(file):
+    return hashlib.md5(file.read_bytes()).hexdigest() if file.is_file() else 'other' if file.exists() else 'missing'
 for folder in [f for parent in sys.argv[1:] for f in sorted(pathlib.Path(parent).iterdir())]:
-    files = tuple((f.name, f.read_bytes() if f.is_file() else None) for f in sorted(folder.iterdir()))
-    if files in seen:
-        print(folder.name)
-    seen.add(files)
+    print(sum_of(folder / 'pattern.txt'), sum_of(folder / 'record.txt'), folder.name)
 END
 }
+# of such lines, the names of those whose files are those of one before
+repeated() { awk 'seen[$1, $2]++ { print $3 }'; }
 build_cases() {
     rm -rf "$cases" && mkdir -p "$cases/expected" && build_programs || return
     "$cases/generate" "$cases/cases.txt" >"$cases/kinds.txt" || return
     "$cases/generate" --dirs "$cases/cases.txt" "$cases/folders" || return
-    repeated "$cases/folders" >"$cases/repeats" || return
+    sums_of "$cases/folders" >"$cases/sums" && repeated <"$cases/sums" >"$cases/repeats" || return
     "$cases/scorer" --many "$cases/folders" "$cases/expected" && complete "$cases/expected"
 }
 build_watched() {
