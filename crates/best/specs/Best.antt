@@ -81,6 +81,13 @@ abbrev pub chosenAs : Option Chosen → Option (ℕ × ℕ × ℤ)
 chosenAs none = none
 chosenAs (some f) = some (f .end, f .end - f .len, f .score)
 
+-- What is due, in document 01's numbers.
+abbrev pub bestNumbers : Pattern → (durations : List ℕ) → (values : List ℤ) → (first second : List ℤ) → ℕ × Option (ℕ × ℕ × ℤ)
+bestNumbers p ds vs t u =
+    cond (not (soundOf p)) (7, none)
+    (cond (not (recordSound (p .channels) ds vs)) (8, none)
+    (cond (tableTooShort p (length t) (length u)) (11, none) (0, chosenAs (chosenOf p (bookOf (p .channels) ds vs)))))
+
 -- "The tables are left as opening and then feeding the whole record leaves them": the table after all ticks, and marks.
 abbrev pub bestFirst : Pattern → (durations : List ℕ) → (values : List ℤ) → (first second : List ℤ) → List ℤ
 bestFirst p ds vs t u =

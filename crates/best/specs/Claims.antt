@@ -21,7 +21,7 @@ use Rattle.monitor.specs.Feed.{Call, feedState, feedFirst, feedSecond}
 use Rattle.monitor.specs.Demand.{InWindow}
 use Rattle.best.specs.declared.Found.{Found}
 use Rattle.best.specs.declared.Found.the-variants.{Run, Nothing, Refused}
-use Rattle.best.specs.Best.{Chosen, chosenOf, bestRefusal, bestOf, foundAs, chosenAs, bestFirst, bestSecond}
+use Rattle.best.specs.Best.{Chosen, chosenOf, bestRefusal, bestOf, foundAs, bestNumbers, bestFirst, bestSecond}
 
 -- Among the ends up to n: some run has this end, length and score; no run is better; none as good ends earlier, and none as
 -- good with the same end is shorter.
@@ -78,14 +78,10 @@ BestAnswers =
 abbrev pub NothingInNothing : Type 0
 NothingInNothing = (p : Pattern) (vs t u : List ℤ) → bestRefusal p [] vs (length t) (length u) ≡ none → bestOf p [] vs t u ≡ Nothing
 
--- What `best` answers, in document 01's numbers: 7, 8, then 11; else 0 and the end, begin and score of the choice.
+-- What `best` answers is what is due, in document 01's numbers.
 abbrev pub BestNumbers : Type 0
 BestNumbers =
-    (p : Pattern) (ds : List ℕ) (vs : List ℤ) (t u : List ℤ)
-    → foundAs (bestOf p ds vs t u)
-    ≡ cond (not (soundOf p)) (7, none)
-    (cond (not (recordSound (p .channels) ds vs)) (8, none)
-    (cond (tableTooShort p (length t) (length u)) (11, none) (0, chosenAs (chosenOf p (bookOf (p .channels) ds vs)))))
+    (p : Pattern) (ds : List ℕ) (vs : List ℤ) (t u : List ℤ) → foundAs (bestOf p ds vs t u) ≡ bestNumbers p ds vs t u
 
 -- ---- the tables
 

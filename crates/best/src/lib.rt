@@ -21,7 +21,7 @@ ghost use Rattle.flags.specs.Flags.{Flagged};
 ghost use Rattle.monitor.specs.Cells.{layout, written};
 ghost use Rattle.monitor.specs.Open.{answerOf};
 ghost use Rattle.monitor.specs.Feed.{feedRefusal, feedState, feedFirst, feedScores, feedLengths};
-ghost use Rattle.best.specs.Best.{chosenWith, chosenOf, bestRefusal, answered, bestOf, bestFirst, bestSecond};
+ghost use Rattle.best.specs.Best.{chosenWith, chosenOf, bestRefusal, answered, bestOf, foundAs, bestNumbers, bestFirst, bestSecond};
 ghost use Rattle.best.specs.Search.{tableTo, chosenIn, chosenPast, chunkOf, SearchedTo, passed, Fit};
 
 // The best run's end, begin and score; no run; or refused for a cause.
@@ -307,6 +307,8 @@ pub fn best(
 ) -> Found
     ensures { λ r. ⌜ r
         ≡ bestOf p (now (durations .entry)) (now (values .entry)) (now (first .entry)) (now (second .entry)) ⌝ }
+    ensures { λ r. ⌜ foundAs r
+        ≡ bestNumbers p (now (durations .entry)) (now (values .entry)) (now (first .entry)) (now (second .entry)) ⌝ }
     ensures { λ _. ⌜ now (first .exit)
         ≡ bestFirst p (now (durations .entry)) (now (values .entry)) (now (first .entry)) (now (second .entry)) ⌝ }
     ensures { λ _. ⌜ now (second .exit)

@@ -15,8 +15,8 @@ ghost use Prim.Native.Nat.{_<_};
 ghost use lib.ListN.{length};
 ghost use Rattle.pattern.specs.Sound.{soundOf};
 ghost use Rattle.monitor.specs.State.{noTicks};
-ghost use Rattle.monitor.specs.Open.{openFirst, openSecond};
-ghost use Rattle.monitor.specs.Feed.{feedFirst, feedSecond, feedScores, feedLengths};
+ghost use Rattle.monitor.specs.Open.{answerNumber, openNumber, openFirst, openSecond};
+ghost use Rattle.monitor.specs.Feed.{feedNumber, feedFirst, feedSecond, feedScores, feedLengths};
 ghost use Rattle.feed.specs.After.{openedOf, callOf, fedOf};
 
 // No ticks, zeros.
@@ -32,6 +32,7 @@ fn no_ticks() -> State
 // Opening: 7, 11; else no ticks, the empty runs, and marks.
 pub fn open(s: State, p: Pattern, first: &mut [i64], second: &mut [i64]) -> After
     ensures { λ r. ⌜ r ≡ openedOf p (now (first .entry)) (now (second .entry)) s ⌝ }
+    ensures { λ r. ⌜ answerNumber (r .answer) ≡ openNumber p (now (first .entry)) (now (second .entry)) ⌝ }
     ensures { λ _. ⌜ now (first .exit) ≡ openFirst p (now (first .entry)) (now (second .entry)) ⌝ }
     ensures { λ _. ⌜ now (second .exit) ≡ openSecond p (now (first .entry)) (now (second .entry)) ⌝ }
 {
@@ -115,6 +116,8 @@ pub fn feed(
     lengths: &mut [u32],
 ) -> After
     ensures { λ r. ⌜ r ≡ fedOf p s (now (first .entry)) (now (second .entry))
+        (callOf duration (now (values .entry)) (now (scores .entry)) (now (lengths .entry))) ⌝ }
+    ensures { λ r. ⌜ answerNumber (r .answer) ≡ feedNumber p s (now (first .entry)) (now (second .entry))
         (callOf duration (now (values .entry)) (now (scores .entry)) (now (lengths .entry))) ⌝ }
     ensures { λ _. ⌜ now (first .exit) ≡ feedFirst p s (now (first .entry)) (now (second .entry))
         (callOf duration (now (values .entry)) (now (scores .entry)) (now (lengths .entry))) ⌝ }

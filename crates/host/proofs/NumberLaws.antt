@@ -9,10 +9,10 @@ use Rattle.pattern.specs.Cells.{cellsOf}
 use Rattle.pattern_text.specs.Bytes.{Bytes}
 use Rattle.pattern_text.specs.Text.{Answer, accepted, refused, readOf}
 use Rattle.pattern_text.proofs.Theorems.{texts-exact}
-use Rattle.pattern_read.specs.Reading.{readingOf}
+use Rattle.pattern_read.specs.Reading.{readingOf, outcomeNumber}
 use Rattle.pattern_text.proofs.Stops.{refusal-numbers}
 use Rattle.pattern.proofs.Claims.{some-cell}
-use Rattle.host_told.specs.Told.{outcomeNumber, countedCells}
+use Rattle.host_told.specs.Told.{countedCells}
 use Rattle.host.specs.Numbers.{checkOf, countOf, NumbersTell}
 
 pub check-told : (a : Answer) → outcomeNumber (readingOf a .outcome) ≡ checkOf a

@@ -4,18 +4,12 @@ use lib.IntN.{pos}
 use Rattle.pattern.specs.declared.Counted.{Counted}
 use Rattle.pattern.specs.declared.Counted as counted
 use Rattle.pattern.specs.Refusal.{numberOf}
-use Rattle.pattern_read.specs.declared.Outcome.{Outcome}
-use Rattle.pattern_read.specs.declared.Outcome as outcome
 use Rattle.price.specs.declared.Priced.{Priced}
 use Rattle.price.specs.declared.Priced.the-variants as priced
 use Rattle.best.specs.declared.Found.{Found}
 use Rattle.best.specs.declared.Found.the-variants as found
 use Rattle.host_told.specs.declared.RunPrice.{RunPrice}
 use Rattle.host_told.specs.declared.RecordBest.{RecordBest}
-
-abbrev pub outcomeNumber : Outcome → ℕ
-outcomeNumber outcome.the-variants.Accepted = 0
-outcomeNumber (outcome.the-variants.Refused r) = numberOf r
 
 abbrev pub countedCells : Counted → ℕ
 countedCells (counted.the-variants.Cells n) = n

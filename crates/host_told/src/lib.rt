@@ -5,7 +5,8 @@ use pattern::Counted;
 use pattern_read::Outcome;
 use price::Priced;
 ghost use mathlib.Core.Path.{_≡_};
-ghost use Rattle.host_told.specs.Told.{outcomeNumber, countedCells, priceTold, bestTold};
+ghost use Rattle.pattern_read.specs.Reading.{outcomeNumber};
+ghost use Rattle.host_told.specs.Told.{countedCells, priceTold, bestTold};
 
 // What a run is worth; 0 beside a refusal.
 #[repr(C)]

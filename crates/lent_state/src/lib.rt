@@ -5,13 +5,14 @@ use monitor::Answer;
 use monitor::State;
 use pattern::Pattern;
 ghost use mathlib.Core.Path.{_≡_};
-ghost use Rattle.monitor.specs.Open.{openAnswer, openState, openFirst, openSecond};
-ghost use Rattle.monitor.specs.Feed.{feedAnswer, feedState, feedFirst, feedSecond, feedScores, feedLengths};
+ghost use Rattle.monitor.specs.Open.{answerNumber, openAnswer, openNumber, openState, openFirst, openSecond};
+ghost use Rattle.monitor.specs.Feed.{feedAnswer, feedNumber, feedState, feedFirst, feedSecond, feedScores, feedLengths};
 ghost use Rattle.feed.specs.After.{openedOf, callOf, fedOf};
 
 // Opening: 7, 11; else no ticks, the empty runs, and marks.
 pub fn open(state: &mut State, p: Pattern, first: &mut [i64], second: &mut [i64]) -> Answer
     ensures { λ r. ⌜ r ≡ openAnswer p (now (first .entry)) (now (second .entry)) ⌝ }
+    ensures { λ r. ⌜ answerNumber r ≡ openNumber p (now (first .entry)) (now (second .entry)) ⌝ }
     ensures { λ _. ⌜ now (state .exit) ≡ openState p (now (first .entry)) (now (second .entry)) (now (state .entry)) ⌝ }
     ensures { λ _. ⌜ now (first .exit) ≡ openFirst p (now (first .entry)) (now (second .entry)) ⌝ }
     ensures { λ _. ⌜ now (second .exit) ≡ openSecond p (now (first .entry)) (now (second .entry)) ⌝ }
@@ -35,6 +36,8 @@ pub fn feed(
     lengths: &mut [u32],
 ) -> Answer
     ensures { λ r. ⌜ r ≡ feedAnswer p (now (state .entry)) (now (first .entry)) (now (second .entry))
+        (callOf duration (now (values .entry)) (now (scores .entry)) (now (lengths .entry))) ⌝ }
+    ensures { λ r. ⌜ answerNumber r ≡ feedNumber p (now (state .entry)) (now (first .entry)) (now (second .entry))
         (callOf duration (now (values .entry)) (now (scores .entry)) (now (lengths .entry))) ⌝ }
     ensures { λ _. ⌜ now (state .exit) ≡ feedState p (now (state .entry)) (now (first .entry)) (now (second .entry))
         (callOf duration (now (values .entry)) (now (scores .entry)) (now (lengths .entry))) ⌝ }

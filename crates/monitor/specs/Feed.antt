@@ -121,15 +121,18 @@ feedLengths p s t u c =
     (map (λ i. lengthIn (reportAfter p s t (c .values) i)) (upTo (c .duration)) ++ drop (c .duration) (c .lengths))
     (c .lengths)
 
--- Theorem: what feeding answers, in document 01's numbers.
-abbrev pub FeedNumbers : Type 0
-FeedNumbers =
-    (p : Pattern) (s : State) (t u : List ℤ) (c : Call)
-    → answerNumber (feedAnswer p s t u c)
-    ≡ cond (not (soundOf p)) 7
+-- What is due, in document 01's numbers.
+abbrev pub feedNumber : Pattern → State → (first second : List ℤ) → Call → ℕ
+feedNumber p s t u c =
+    cond (not (soundOf p)) 7
     (cond (not (stateSound p s)) 12
     (cond (tableTooShort p (length t) (length u)) 11
     (cond (pieceBroken p (c .duration) (c .values)) 8
     (cond (tooManyTicks (s .ticks) (c .duration)) 13
     (cond (cellsBroken p t) 14
     (cond (reportsTooShort (length (c .scores)) (length (c .lengths)) (c .duration)) 6 0))))))
+
+-- Theorem: the two agree.
+abbrev pub FeedNumbers : Type 0
+FeedNumbers =
+    (p : Pattern) (s : State) (t u : List ℤ) (c : Call) → answerNumber (feedAnswer p s t u c) ≡ feedNumber p s t u c

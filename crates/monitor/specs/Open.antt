@@ -69,8 +69,10 @@ marks p u = replicate (cellsNeeded p) mark ++ drop (cellsNeeded p) u
 abbrev pub openSecond : Pattern → (first second : List ℤ) → List ℤ
 openSecond p t u = unlessRefused (openRefusal p (length t) (length u)) (marks p u) u
 
--- Theorem: what opening answers, in document 01's numbers.
+-- What is due, in document 01's numbers.
+abbrev pub openNumber : Pattern → (first second : List ℤ) → ℕ
+openNumber p t u = cond (not (soundOf p)) 7 (cond (tableTooShort p (length t) (length u)) 11 0)
+
+-- Theorem: the two agree.
 abbrev pub OpenNumbers : Type 0
-OpenNumbers =
-    (p : Pattern) (t u : List ℤ)
-    → answerNumber (openAnswer p t u) ≡ cond (not (soundOf p)) 7 (cond (tableTooShort p (length t) (length u)) 11 0)
+OpenNumbers = (p : Pattern) (t u : List ℤ) → answerNumber (openAnswer p t u) ≡ openNumber p t u

@@ -18,7 +18,7 @@ use Rattle.pattern.specs.declared.Sign.the-variants.{Less, AtMost, More,
 use Rattle.pattern.specs.declared.Test.{Test}
 use Rattle.pattern.specs.Distance.{Sample, distanceFrom, distanceOf, distanceIn}
 use Rattle.pattern.proofs.ListLaws.{take-more}
-use Rattle.integers.proofs.Ranges.{abs-sub, fits-abs}
+use Rattle.integers.proofs.Linear.{abs-is, mag-is, sub-is}
 use Rattle.integers.proofs.Casts.{widen-back, sub-fits}
 use Rattle.integers.proofs.Sums.{sub-turn}
 
@@ -44,15 +44,18 @@ module _ (v b : ℤ) (p : SFits w32 v) (q : SFits w32 b) where
 
 -- ---- sizes
 
+sub-size : (a b : ℤ) → SFits w32 a → SFits w32 b → natAbs (a -ℤ b) < 2 ^ 32
+sub-size a b p q = omega (arith, p .sfits, q .sfits, mag-is a, mag-is b, sub-is a b, abs-is (a -ℤ b))
+
 -- whatever i32 the value and the bound are
-pub distance-size : (t : Test) (v : ℤ) → SFits w32 v → SFits w32 (t .bound) → natAbs (distanceOf t v) ≤ 2 ^ 32
+pub distance-size : (t : Test) (v : ℤ) → SFits w32 v → SFits w32 (t .bound) → natAbs (distanceOf t v) < 2 ^ 32
 distance-size t v p q = by (t .sign)
   where
-    by : (s : Sign) → natAbs (distanceFrom s (t .bound) v) ≤ 2 ^ 32
-    by Less = omega (arith, abs-sub (t .bound) v, abs-sub v (t .bound), fits-abs w32 v p, fits-abs w32 (t .bound) q)
-    by AtMost = omega (arith, abs-sub (t .bound) v, abs-sub v (t .bound), fits-abs w32 v p, fits-abs w32 (t .bound) q)
-    by More = omega (arith, abs-sub (t .bound) v, abs-sub v (t .bound), fits-abs w32 v p, fits-abs w32 (t .bound) q)
-    by AtLeast = omega (arith, abs-sub (t .bound) v, abs-sub v (t .bound), fits-abs w32 v p, fits-abs w32 (t .bound) q)
+    by : (s : Sign) → natAbs (distanceFrom s (t .bound) v) < 2 ^ 32
+    by Less = sub-size (t .bound) v q p
+    by AtMost = sub-size (t .bound) v q p
+    by More = sub-size v (t .bound) p q
+    by AtLeast = sub-size v (t .bound) p q
 
 -- ---- a place's worth, test by test
 

@@ -82,6 +82,10 @@ countedAs (Refused r) = (numberOf r, 0)
 unfoldable pub cellsOf : Pattern → Counted
 cellsOf p = cond (soundOf p) (Cells (cellsNeeded p)) (Refused UnsoundPattern)
 
--- Theorem: what `cells` answers, in document 01's numbers.
+-- The same in document 01's numbers.
+abbrev pub cellsNumbers : Pattern → ℕ × ℕ
+cellsNumbers p = cond (soundOf p) (0, cellsNeeded p) (7, 0)
+
+-- Theorem: they agree.
 abbrev pub CellsCounted : Type 0
-CellsCounted = (p : Pattern) → countedAs (cellsOf p) ≡ cond (soundOf p) (0, cellsNeeded p) (7, 0)
+CellsCounted = (p : Pattern) → countedAs (cellsOf p) ≡ cellsNumbers p

@@ -1,5 +1,5 @@
 -- Distances and the worth of a sample in a place (document 01, 'Record and run').
-use Prim.Native.Nat.{ℕ, _^_, _≤_}
+use Prim.Native.Nat.{ℕ, _^_, _≤_, _<_}
 use mathlib.Core.Path.{_≡_}
 use mathlib.Core.List.{List, map, List·Memᴰ}
 use lib.Dec.{T}
@@ -62,7 +62,8 @@ MarginIsLeast =
     → (d : ℤ) → List·Memᴰ d (distancesOf l s)
     → List·Memᴰ (placeWorth Margin l s) (distancesOf l s) × T (leZ (placeWorth Margin l s) d)
 
--- r is the test's distance in the sample. Whatever i32 the value and the bound are, it is at most 2^32 in size.
+-- r is the test's distance in the sample. Whatever i32 the value and the bound are, it is below 2^32 in size, and may be
+-- one less than that.
 pub record Measured (t : Test) (s : Sample) (r : ℤ) : Type 0 where
   pub is : r ≡ distanceIn s t
-  pub size : natAbs r ≤ 2 ^ 32
+  pub size : natAbs r < 2 ^ 32

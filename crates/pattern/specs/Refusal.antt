@@ -20,7 +20,7 @@ numberOf BrokenRecord = 8
 numberOf BrokenSteps = 9
 -- price: not a run, or past the record's end
 numberOf NotARun = 10
--- open, feed: a table shorter than the cells needed
+-- open, feed, best of a record: a table shorter than the cells needed
 numberOf TableTooShort = 11
 -- feed: a broken state; too many ticks in all; a needed cell that holds no worth in range
 numberOf BrokenState = 12

@@ -7,7 +7,7 @@ use weighting::Weighing;
 ghost use mathlib.Core.Path.{_≡_};
 ghost use mathlib.Core.Bool.{true};
 ghost use Rattle.pattern.specs.Slots.{slots};
-ghost use Rattle.pattern.specs.Cells.{radixProduct, cellsNeeded, cellsOf};
+ghost use Rattle.pattern.specs.Cells.{radixProduct, cellsNeeded, countedAs, cellsOf, cellsNumbers};
 ghost use Rattle.pattern.specs.Kinds.{isStart, isEnd};
 ghost use Rattle.pattern.specs.Refusal.{numberOf};
 ghost use Rattle.pattern.specs.Sound.{placeSound, placeUnused, edgeSound, edgeUnused, headerInRange, soundOf};
@@ -179,6 +179,7 @@ fn cells_needed(p: Pattern) -> u64
 // The cells needed, or refusal 7.
 pub fn cells(p: Pattern) -> Counted
     ensures { λ r. ⌜ r ≡ cellsOf p ⌝ }
+    ensures { λ r. ⌜ countedAs r ≡ cellsNumbers p ⌝ }
 {
     if sound(p) {
         Counted::Cells(cells_needed(p))

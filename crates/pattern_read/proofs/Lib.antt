@@ -4,3 +4,4 @@ pub mod HeldLines
 pub mod Cutting
 pub mod Filling
 pub mod Walking
+pub mod Numbers

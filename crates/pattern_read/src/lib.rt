@@ -6,7 +6,7 @@ ghost use lib.ListN.{length};
 ghost use mathlib.Core.Option.{none};
 ghost use Rattle.pattern_text.specs.Text.{linesOf, readLines, readOf};
 ghost use Rattle.pattern_lines.specs.Turn.{turned};
-ghost use Rattle.pattern_read.specs.Reading.{readingOf};
+ghost use Rattle.pattern_read.specs.Reading.{readingOf, readAs, readNumbers};
 ghost use Rattle.pattern_read.specs.Finish.{refusedOf, settledOf, finishOf, startState};
 use pattern::Pattern;
 use pattern::Refusal;
@@ -99,6 +99,7 @@ fn read_lines(text: &[u8]) -> State
 // Read a pattern: 1, then the first faulty line decides.
 pub fn read(text: &[u8]) -> PatternRead
     ensures { λ r. ⌜ r ≡ readingOf (readOf (now (text .entry))) ⌝ }
+    ensures { λ r. ⌜ readAs r ≡ readNumbers (now (text .entry)) ⌝ }
 {
     if 8_192 < text.len() {
         return refused(Refusal::TextTooLong);

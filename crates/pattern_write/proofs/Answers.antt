@@ -1,6 +1,6 @@
 -- A text that fits is in the buffer whole; and the three answers.
 use Prim.Native.Nat.{ℕ, _≤_, _<_, zero-le}
-use mathlib.Core.Path.{_≡_, refl, sym, ap, _∙_}
+use mathlib.Core.Path.{_≡_, sym, ap, _∙_}
 use mathlib.Core.Bool.{true, false}
 use mathlib.Core.List.{_++_}
 use borrow.Author.Tests.{lt-ltb, le-ltb}
@@ -12,8 +12,10 @@ use Rattle.pattern.specs.Sound.{soundOf}
 use Rattle.pattern_text.specs.Bytes.{Bytes}
 use Rattle.pattern_text.specs.Text.{renderOf}
 use Rattle.text_put.specs.Put.{Put}
+use Rattle.pattern_write.specs.declared.Written.{Written}
 use Rattle.pattern_write.specs.declared.Written.the-variants.{Length, Refused}
-use Rattle.pattern_write.specs.Written.{writtenOf, outputOf}
+use Rattle.pattern_write.specs.Written.{writtenOf, outputOf, writtenAs, writtenNumbers}
+use Rattle.pattern_write.proofs.Numbers.{written-numbers}
 
 pub record Whole (b : Bytes) (n : ℕ) (t : Bytes) : Type 0 where
   pub size : n ≡ length t
@@ -32,11 +34,19 @@ copied {b} {t} {r} {n} out w e = e ∙ rw (take-length (take n b), w .text)
 -- ---- the three answers
 
 module _ (p : Pattern) (out : Bytes) where
-  pub unsound : soundOf p ≡ false → (Refused UnsoundPattern ≡ writtenOf p (length out)) × (out ≡ outputOf p out)
-  unsound e = rw e (refl, refl)
+  -- what `write` promises of an answer and of what the output then holds
+  abbrev pub Promised : Written → Bytes → Type 0
+  Promised a o = (a ≡ writtenOf p (length out)) × ((writtenAs a ≡ writtenNumbers p (length out)) × (o ≡ outputOf p out))
 
-  pub too-short : soundOf p ≡ true → length out < length (renderOf p) → (Refused OutputTooShort ≡ writtenOf p (length out)) × (out ≡ outputOf p out)
-  too-short e h = rw (e, lt-ltb (length out) (length (renderOf p)) h) (refl, refl)
+  -- the numbers follow from the answer
+  promised : {a : Written} {o : Bytes} → a ≡ writtenOf p (length out) → o ≡ outputOf p out → Promised a o
+  promised e o = (e, (ap writtenAs e ∙ written-numbers p (length out), o))
 
-  pub written : soundOf p ≡ true → length (renderOf p) ≤ length out → (Length (length (renderOf p)) ≡ writtenOf p (length out)) × (renderOf p ++ drop (length (renderOf p)) out ≡ outputOf p out)
-  written e h = rw (e, le-ltb (length out) (length (renderOf p)) h) (refl, refl)
+  pub unsound : soundOf p ≡ false → Promised (Refused UnsoundPattern) out
+  unsound e = promised (rw e) (rw e)
+
+  pub too-short : soundOf p ≡ true → length out < length (renderOf p) → Promised (Refused OutputTooShort) out
+  too-short e h = let k = lt-ltb (length out) (length (renderOf p)) h in promised (rw (e, k)) (rw (e, k))
+
+  pub written : {n : ℕ} {o : Bytes} → soundOf p ≡ true → length (renderOf p) ≤ length out → n ≡ length (renderOf p) → o ≡ renderOf p ++ drop (length (renderOf p)) out → Promised (Length n) o
+  written e h s k = let l = le-ltb (length out) (length (renderOf p)) h in promised (rw (e, l) (ap Length s)) (rw (e, l) k)

@@ -35,9 +35,10 @@ abbrev pub writtenAs : Written → ℕ × ℕ
 writtenAs (Length n) = (0, n)
 writtenAs (Refused r) = (numberOf r, 0)
 
--- Theorem: what `write` answers, in document 01's numbers.
+-- What is due, in document 01's numbers.
+abbrev pub writtenNumbers : Pattern → (room : ℕ) → ℕ × ℕ
+writtenNumbers p room = cond (soundOf p) (cond (ltb room (length (renderOf p))) (6, 0) (0, length (renderOf p))) (7, 0)
+
+-- Theorem: the two agree.
 abbrev pub WrittenNumbers : Type 0
-WrittenNumbers =
-    (p : Pattern) (room : ℕ)
-    → writtenAs (writtenOf p room)
-    ≡ cond (soundOf p) (cond (ltb room (length (renderOf p))) (6, 0) (0, length (renderOf p))) (7, 0)
+WrittenNumbers = (p : Pattern) (room : ℕ) → writtenAs (writtenOf p room) ≡ writtenNumbers p room

@@ -48,16 +48,20 @@ abbrev pub scoredAs : Option ℤ → ℕ × ℤ
 scoredAs (some w) = (0, w)
 scoredAs none = (10, pos 0)
 
--- Theorem: what `price` answers, in document 01's numbers.
-abbrev pub PricedNumbers : Type 0
-PricedNumbers =
-    (p : Pattern) (ds : List ℕ) (vs : List ℤ) (begin : ℕ) (es ss : List ℕ)
-    → pricedAs (pricedOf p ds vs begin es ss)
-    ≡ cond (soundOf p)
+-- What is due, in document 01's numbers.
+abbrev pub pricedNumbers : Pattern → (durations : List ℕ) → (values : List ℤ) → (begin : ℕ) → (edges stays : List ℕ) → ℕ × ℤ
+pricedNumbers p ds vs begin es ss =
+    cond (soundOf p)
     (cond (recordSound (p .channels) ds vs)
     (cond (stepsFit ds begin es ss) (scoredAs (priceOf p (bookOf (p .channels) ds vs) begin (stepsOf es ss))) (9, pos 0))
     (8, pos 0))
     (7, pos 0)
+
+-- Theorem: the two agree.
+abbrev pub PricedNumbers : Type 0
+PricedNumbers =
+    (p : Pattern) (ds : List ℕ) (vs : List ℤ) (begin : ℕ) (es ss : List ℕ)
+    → pricedAs (pricedOf p ds vs begin es ss) ≡ pricedNumbers p ds vs begin es ss
 
 -- How large a run of so many ticks can be: in margin no more than one distance, or 2,000,001 without tests; in sum each tick
 -- brings at most one observation, of at most four distances of 2,000,000.

@@ -18,7 +18,7 @@ ghost use Rattle.record.specs.Record.{total, bookOf};
 ghost use Rattle.record.specs.Run.{stepsOf};
 ghost use Rattle.record.specs.Worth.{priceOf};
 ghost use Rattle.price_runs.specs.Stand.{outcome, Held};
-ghost use Rattle.price.specs.Price.{stepsFit, scored, pricedOf};
+ghost use Rattle.price.specs.Price.{stepsFit, scored, pricedOf, pricedAs, pricedNumbers};
 ghost use Rattle.price.specs.Whole.{Found, startOf, scoreAt, Fit};
 
 pub enum Priced {
@@ -166,6 +166,8 @@ pub fn price(
     stays: &[u32],
 ) -> Priced
     ensures { λ r. ⌜ r ≡ pricedOf p (now (durations .entry)) (now (values .entry)) begin
+        (now (edges .entry)) (now (stays .entry)) ⌝ }
+    ensures { λ r. ⌜ pricedAs r ≡ pricedNumbers p (now (durations .entry)) (now (values .entry)) begin
         (now (edges .entry)) (now (stays .entry)) ⌝ }
 {
     if !sound(p) {

@@ -2,4 +2,5 @@
 pub mod ValuesLaws
 pub mod LineLaws
 pub mod Walking
+pub mod Numbers
 pub mod Theorems

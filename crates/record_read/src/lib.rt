@@ -4,7 +4,7 @@ ghost use Prim.Native.Nat.{_+_, _≤_, min};
 ghost use lib.ListN.{length};
 ghost use Rattle.record_text.specs.Text.{readRecord, piecesRefusal, recordRefusal};
 ghost use Rattle.record_read.specs.Line.{limit, noValues, addValue, valueAt, valueTurn, valuesAt, lineAt, pieceAt};
-ghost use Rattle.record_read.specs.Check.{checkedOf, lineSound, startWalk, turned, finishOf};
+ghost use Rattle.record_read.specs.Check.{checkedOf, checkedAs, checkNumber, lineSound, startWalk, turned, finishOf};
 use pattern::Refusal;
 use text_reader::Reader;
 use text_scan::Found;
@@ -282,6 +282,7 @@ fn finish(s: Walk) -> Checked
 // Check a record's text for a pattern's channels: 1, a broken form anywhere 2, then 8.
 pub fn check(text: &[u8], channels: u8) -> Checked
     ensures { λ r. ⌜ r ≡ checkedOf (recordRefusal channels (now (text .entry))) ⌝ }
+    ensures { λ r. ⌜ checkedAs r ≡ checkNumber channels (now (text .entry)) ⌝ }
 {
     if 16_384 < text.len() {
         return Checked::Refused(Refusal::TextTooLong);

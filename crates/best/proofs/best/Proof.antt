@@ -1,12 +1,19 @@
 -- Refused for a cause, or the choice told.
+use Prim.Native.Nat.{ℕ}
 use mathlib.Core.Path.{_≡_, sym, ap, _∙_}
+use mathlib.Core.List.{List}
+use lib.IntN.{ℤ}
 use mathlib.Core.Option.{none, some}
 use borrow.Author.Needs.{needs}
 use lib.ListN.{length}
 use Rattle.record.specs.Record.{bookOf}
 use Rattle.monitor.proofs.Demand.{open-parts}
 use Rattle.feed_checks.proofs.Accepted.{done, refused-for}
-use Rattle.best.specs.Best.{bestRefusal, answered}
+use Rattle.pattern.specs.declared.Pattern.{Pattern}
+use Rattle.best.specs.declared.Found.{Found}
+use Rattle.best.specs.declared.Found.the-variants.{Refused}
+use Rattle.best.specs.Best.{bestRefusal, answered, bestOf, foundAs, bestNumbers}
+use Rattle.best.proofs.Answer.{best-numbers}
 use Rattle.best.proofs.Ends.{begins-inside}
 use Rattle.best.proofs.Whole.{causes}
 use Rattle.best.proofs.best.Statement.{statement}
@@ -44,17 +51,24 @@ same-length c = search needs
 same-length-2 : tie.Need-same-length-2
 same-length-2 c = search needs
 
+-- the answer, and what it says in numbers
+numbers : (p : Pattern) (ds : List ℕ) (vs t u : List ℤ) (r : Found) → r ≡ bestOf p ds vs t u → foundAs r ≡ bestNumbers p ds vs t u
+numbers p ds vs t u r e = ap foundAs e ∙ best-numbers p ds vs t u
+
 returns : tie.Need-returns
 returns c =
+    let a = c .before .before .before .before .before .before .before .before .before .before .args in
     let o = c .before .before .before .search-all .ensures in
-    (rw (none-given (c .before .before .before .before)) (c .told .ensures ∙ ap (answered none) (o .0)), (o .1 .0, o .1 .1))
+    let e : c .told .result ≡ bestOf (a .p) (a .durations .now) (a .values .now) (a .first .now) (a .second .now) =
+    rw (none-given (c .before .before .before .before)) (c .told .ensures ∙ ap (answered none) (o .0)) in
+    (e, (numbers (a .p) (a .durations .now) (a .values .now) (a .first .now) (a .second .now) _ e, (o .1 .0, o .1 .1)))
 
 returns-2 : tie.Need-returns-2
 returns-2 c =
     let a = c .before .before .before .before .before .args in
     let e : bestRefusal (a .p) (a .durations .now) (a .values .now) (length (a .first .now)) (length (a .second .now)) ≡ some (c .before .r .given .0 .0) =
     refused-for _ _ (sym (c .before .r .given .1) ∙ c .before .before .before .refusal .ensures) in
-    (rw e, (rw e, rw e))
+    (rw e, (numbers (a .p) (a .durations .now) (a .values .now) (a .first .now) (a .second .now) (Refused (c .before .r .given .0 .0)) (rw e), (rw e, rw e)))
 
 pub best-spec : {M : Type 1} → statement M
 best-spec =

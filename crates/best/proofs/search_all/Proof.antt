@@ -31,8 +31,8 @@ feed-all-requires c κs =
     let st = c .before .before .before .before .before .before .before .before .before .before .before .before in
     let a = st .args in
     let o = c .before .before .before .before .before .before .before .before .«open» .ensures in (
-      rw (o .1 .0) (fit (a .p) (a .durations .now) (a .values .now) (a .first .now) (a .second .now) (st .pre) _ _ (ap (λ (x : After). x .state) (o .0)) refl),
-      rw (o .1 .0) (flagged (a .p) (a .durations .now) (a .values .now) (a .first .now) (a .second .now) (st .pre) _ (c .before .before .before .before .flag-opened .ensures)),
+      rw (o .1 .1 .0) (fit (a .p) (a .durations .now) (a .values .now) (a .first .now) (a .second .now) (st .pre) _ _ (ap (λ (x : After). x .state) (o .0)) refl),
+      rw (o .1 .1 .0) (flagged (a .p) (a .durations .now) (a .values .now) (a .first .now) (a .second .now) (st .pre) _ (c .before .before .before .before .flag-opened .ensures)),
     )
 
 same-length : tie.Need-same-length
@@ -51,8 +51,8 @@ returns c =
     let vs = a .values .now in (
       f .0 .1 ∙ ap (chosenTo (a .p) (bookOf (a .p .channels) ds vs)) (sym (book-long (a .p) (a .p .channels) ds vs)),
       (
-        first-left (a .p) ds vs (a .first .now) (a .second .now) (st .pre) _ (rw (← o .1 .0) (f .1 .0)),
-        o .1 .1 ∙ second-left (a .p) ds vs (a .first .now) (a .second .now) (st .pre),
+        first-left (a .p) ds vs (a .first .now) (a .second .now) (st .pre) _ (rw (← o .1 .1 .0) (f .1 .0)),
+        o .1 .1 .1 ∙ second-left (a .p) ds vs (a .first .now) (a .second .now) (st .pre),
       ),
     )
 

@@ -1,7 +1,8 @@
-use mathlib.Core.Path.{_≡_, sym, _∙_}
+use mathlib.Core.Path.{_≡_, sym, ap, _∙_}
 use mathlib.Core.Option.{none, some}
 use lib.ListN.{length}
-use Rattle.monitor.specs.Open.{openRefusal}
+use Rattle.monitor.specs.Open.{answerOf, answerNumber, openRefusal}
+use Rattle.monitor.proofs.Answers.{open-numbers}
 use Rattle.feed_checks.proofs.Accepted.{done, refused-for, opened}
 use borrow.Author.Needs.{needs}
 use Rattle.feed.proofs.open.Statement.{statement}
@@ -37,13 +38,13 @@ returns c =
     let a = c .before .before .before .before .before .before .before .before .before .args in
     let e : openRefusal (a .p) (length (a .first .now)) (length (a .second .now)) ≡ none = done _ (sym (c .before .before .before .before .before .before .enum-told .given .1) ∙ c .before .before .before .before .before .before .before .before .open-refusal .ensures) in
     let o = c .before .before .before .open-both .ensures in
-    (rw (e, c .no-ticks .ensures), (rw e (o .0), rw e (o .1)))
+    (rw (e, c .no-ticks .ensures), (ap (λ q. answerNumber (answerOf q)) (sym e) ∙ open-numbers (a .p) (a .first .now) (a .second .now), (rw e (o .0), rw e (o .1))))
 
 returns-2 : tie.Need-returns-2
 returns-2 c =
     let a = c .before .before .before .before .args in
     let e : openRefusal (a .p) (length (a .first .now)) (length (a .second .now)) ≡ some (c .before .r .given .0 .0) = refused-for _ _ (sym (c .before .r .given .1) ∙ c .before .before .before .open-refusal .ensures) in
-    (rw e, (rw e, rw e))
+    (rw e, (ap (λ q. answerNumber (answerOf q)) (sym e) ∙ open-numbers (a .p) (a .first .now) (a .second .now), (rw e, rw e)))
 
 pub open-spec : {M : Type 1} → statement M
 open-spec =

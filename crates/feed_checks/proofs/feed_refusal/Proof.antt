@@ -41,7 +41,7 @@ entry-4 c = entry-3 (c .before .before)
 sound-is : (c : tie.After-needed) → let p = c .before .before .before .before .args .p in (soundOf p ≡ true) × (c .needed .given .0 .0 ≡ cellsNeeded p)
 sound-is c =
     let k = c .before .before in
-    counted (k .before .before .args .p) (c .needed .given .0 .0) (sym (c .needed .given .1) ∙ k .cells .ensures)
+    counted (k .before .before .args .p) (c .needed .given .0 .0) (sym (c .needed .given .1) ∙ k .cells .ensures .0)
 
 sound : (c : tie.Else1) → soundOf (entry-1 c .args .p) ≡ true
 sound c = sound-is (c .before .before .before) .0
@@ -183,7 +183,7 @@ returns-8 : tie.Need-returns-8
 unfolding feedCause
 returns-8 c =
     let k = c .before .before in
-    refuses (rw (refused (k .before .before .args .p) (c .enum-told .given .0 .0) (sym (c .enum-told .given .1) ∙ k .cells .ensures)))
+    refuses (rw (refused (k .before .before .args .p) (c .enum-told .given .0 .0) (sym (c .enum-told .given .1) ∙ k .cells .ensures .0)))
 
 pub feed-refusal-spec : {M : Type 1} → statement M
 feed-refusal-spec =

@@ -22,21 +22,21 @@ returns : tie.Need-returns
 unfolding openRefusal
 returns c =
     let s = c .before .before .before in
-    let k = counted (s .before .before .before .args .p) (s .needed .given .0 .0) (sym (s .needed .given .1) ∙ s .before .before .cells .ensures) in
+    let k = counted (s .before .before .before .args .p) (s .needed .given .0 .0) (sym (s .needed .given .1) ∙ s .before .before .cells .ensures .0) in
     rw (k .0, ← k .1, ← c .before .too-short .ensures, c .if1 .taken)
 
 returns-2 : tie.Need-returns-2
 unfolding openRefusal
 returns-2 c =
     let s = c .before .before .before in
-    let k = counted (s .before .before .before .args .p) (s .needed .given .0 .0) (sym (s .needed .given .1) ∙ s .before .before .cells .ensures) in
+    let k = counted (s .before .before .before .args .p) (s .needed .given .0 .0) (sym (s .needed .given .1) ∙ s .before .before .cells .ensures .0) in
     rw (k .0, ← k .1, ← c .before .too-short .ensures, c .if1 .left)
 
 returns-3 : tie.Need-returns-3
 unfolding openRefusal
 returns-3 c =
     let s = c .before .before in
-    rw (refused (s .before .args .p) (c .enum-told .given .0 .0) (sym (c .enum-told .given .1) ∙ s .cells .ensures))
+    rw (refused (s .before .args .p) (c .enum-told .given .0 .0) (sym (c .enum-told .given .1) ∙ s .cells .ensures .0))
 
 pub open-refusal-spec : {M : Type 1} → statement M
 open-refusal-spec =

@@ -18,7 +18,7 @@ counted-cells-requires c κs = search needs
 returns : tie.Need-returns
 returns c =
     let t = c .before .before .before .before .before .args .text .now in
-    c .counted-cells .ensures ∙ rw (c .before .cells .ensures, c .before .before .before .read .ensures) (count-told t (readOf t) refl)
+    c .counted-cells .ensures ∙ rw (c .before .cells .ensures .0, c .before .before .before .read .ensures .0) (count-told t (readOf t) refl)
 
 pub pattern-cells-spec : {M : Type 1} → statement M
 pattern-cells-spec =

@@ -34,15 +34,15 @@ returns : tie.Need-returns
 returns c =
     let x = readOf (c .before .before .before .before .before .before .before .before .before .before .before .before .args .text .now) in
     let r = c .before .before .before .before .before .before .before .before .before .read in
-    let is : x ≡ accepted (r .result .pattern) = accepted-is x (r .result) (r .ensures) (c .before .before .before .before .before .before .enum-told .given .1) in
+    let is : x ≡ accepted (r .result .pattern) = accepted-is x (r .result) (r .ensures .0) (c .before .before .before .before .before .before .enum-told .given .1) in
     let o = c .before .before .before .best .ensures in
-    (rw (is, c .best-told .ensures, o .0), (rw is (o .1 .0), rw is (o .1 .1)))
+    (rw (is, c .best-told .ensures, o .0), (rw is (o .1 .1 .0), rw is (o .1 .1 .1)))
 
 returns-2 : tie.Need-returns-2
 returns-2 c =
     let x = readOf (c .before .before .before .before .before .before .before .before .args .text .now) in
     let r = c .before .before .before .before .before .read in
-    let is : x ≡ refused (c .before .before .outcome .given .0 .0) = refused-is x (r .result) _ (r .ensures) (c .before .before .outcome .given .1) in
+    let is : x ≡ refused (c .before .before .outcome .given .0 .0) = refused-is x (r .result) _ (r .ensures .0) (c .before .before .outcome .given .1) in
     rw is (c .best-told2 .ensures, (refl, refl))
 
 pub record-best-spec : {M : Type 1} → statement M

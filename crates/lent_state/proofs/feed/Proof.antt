@@ -43,7 +43,8 @@ use denote.Triple.Entry.{alive, onEntry}
 use denote.Triple.Spec.{Meets, tripleOf}
 use denote.Triple.Table.{entered, cited}
 use denote.Triple.Walked.{Stays, stay-ref, walkOf, AllGo, goes-ref, Walks, walked, walk-meets}
-use Rattle.monitor.specs.Feed.{Call, feedAnswer, feedState, feedFirst, feedSecond, feedScores, feedLengths}
+use Rattle.monitor.specs.Open.{answerNumber}
+use Rattle.monitor.specs.Feed.{Call, feedAnswer, feedNumber, feedState, feedFirst, feedSecond, feedScores, feedLengths}
 use Rattle.feed.specs.After.{callOf, fedOf}
 use Rattle.pattern.specs.declared.Pattern.{Pattern}
 use Rattle.pattern.proofs.Pattern as P
@@ -123,21 +124,23 @@ module _ {M : Type 1} (𝓤 : URA M) (H : Heap 𝓤) (A : Atoms 𝓤) (W : Given
   abbrev Said : After → Lasts core.ended κs (h, a) → Item 𝓤
   Said r ws =
       raw (fact 𝓤 (r ≡ fedOf p h t u c)) ⊛
+      raw (fact 𝓤 (answerNumber (r .answer) ≡ feedNumber p h t u c)) ⊛
       raw (fact 𝓤 (ws .1 .1 .0 ≡ feedFirst p h t u c)) ⊛
       raw (fact 𝓤 (ws .1 .1 .1 .0 ≡ feedSecond p h t u c)) ⊛
       raw (fact 𝓤 (ws .1 .1 .1 .1 .1 .1 .0 ≡ feedScores p h t u c)) ⊛
       raw (fact 𝓤 (ws .1 .1 .1 .1 .1 .1 .1 .0 ≡ feedLengths p h t u c))
 
   -- it is what `feed` owes of the answer, the state and each slice
-  promised : (r : After) (ws : Lasts core.ended κs (h, a)) → r ≡ fedOf p h t u c → ws .1 .1 .0 ≡ feedFirst p h t u c → ws .1 .1 .1 .0 ≡ feedSecond p h t u c → ws .1 .1 .1 .1 .1 .1 .0 ≡ feedScores p h t u c → ws .1 .1 .1 .1 .1 .1 .1 .0 ≡ feedLengths p h t u c
+  promised : (r : After) (ws : Lasts core.ended κs (h, a)) → r ≡ fedOf p h t u c → answerNumber (r .answer) ≡ feedNumber p h t u c → ws .1 .1 .0 ≡ feedFirst p h t u c → ws .1 .1 .1 .0 ≡ feedSecond p h t u c → ws .1 .1 .1 .1 .1 .1 .0 ≡ feedScores p h t u c → ws .1 .1 .1 .1 .1 .1 .1 .0 ≡ feedLengths p h t u c
       → ent 𝓤 (emp 𝓤) (lent.clauses 𝓤 H A at-mem run (κ, κs) x .ensures tt (r .answer) (atExit lent.ended (κ, κs) x (r .state, ws .1)))
-  promised r ws e₀ e₁ e₂ e₃ e₄ =
+  promised r ws e₀ n e₁ e₂ e₃ e₄ =
       told-first 𝓤 (ap (λ (s : After). s .answer) e₀)
+      (told-first 𝓤 n
       (told-first 𝓤 (ap (λ (s : After). s .state) e₀)
       (told-first 𝓤 e₁
       (told-first 𝓤 e₂
       (told-first 𝓤 e₃
-      (told 𝓤 e₄)))))
+      (told 𝓤 e₄))))))
 
   exits : (r : After) (ws : Lasts core.ended κs (h, a)) → ent 𝓤 (emp 𝓤) (lent.clauses 𝓤 H A at-mem run (κ, κs) x .ensures tt (r .answer) (atExit lent.ended (κ, κs) x (r .state, ws .1))) → Is E.the-row (r .answer) (EE.val E.the-type E′.the-laws (r .answer) ∷ [])
       → ent 𝓤 (sep 𝓤 (A .obs γ (S.the-row .coded .code (r .state))) (sep 𝓤 (A .bor κ (Body (mem S.the-row) b o γ)) (sep 𝓤 (A .lft κ q) (sep 𝓤 (sem 𝓤 H A (lasts core.ended κs (h, a) ws)) (alive 𝓤 H A core.signature κs qs))))) (Post (EE.val E.the-type E′.the-laws (r .answer)))
@@ -194,7 +197,7 @@ module _ {M : Type 1} (𝓤 : URA M) (H : Heap 𝓤) (A : Atoms 𝓤) (W : Given
         calls-at ! fm (Core 𝓤 H A at-mem run) known to-core (and-then ! (load ! (from ! (stop !)) (look ! 25 refl)) (and-then ! (load ! (from ! (stop !)) (look ! 39 refl)) (and-then ! (load ! (from ! (stop !)) (look ! 17 refl)) (and-then ! (load ! (from ! (stop !)) (look ! 13 refl)) (and-then ! (load ! (from ! (stop !)) (look ! 33 refl)) (and-then ! (load ! (from ! (stop !)) (look ! 31 refl)) (and-then ! (load ! (from ! (stop !)) (look ! 9 refl)) (and-then ! (load ! (from ! (stop !)) (look ! 5 refl)) (no-more !))))))))) (λ v.
         use1 W (later (some (λ (r : After). (Toks ⊛ ‵ (R.the-row .own r (v ∷ []))) ⊛ raw (ensured 𝓤 H A core.ended (core.clauses 𝓤 H A at-mem run) κs (h, a) tt r)))) (id⊢ 𝓤 _) $ await ! tt $ pick ! (λ r. split ! $ split ! $ move ! (2 ∷ []) $
         use1 W (some (λ (ws : Lasts core.ended κs (h, a)). ‵ (lasts core.ended κs (h, a) ws) ⊛ Said r ws)) (id⊢ 𝓤 _) $ pick ! (λ ws. split ! $ move ! (1 ∷ []) $
-        split ! $ heard ! _ (λ e₀. split ! $ heard ! _ (λ e₁. split ! $ heard ! _ (λ e₂. split ! $ heard ! _ (λ e₃. heard ! _ (λ e₄.
+        split ! $ heard ! _ (λ e₀. split ! $ heard ! _ (λ n. split ! $ heard ! _ (λ e₁. split ! $ heard ! _ (λ e₂. split ! $ heard ! _ (λ e₃. heard ! _ (λ e₄.
         move ! (2 ∷ []) $ facts ! R.the-row (Is R.the-row) (shows 𝓤 H A R.the-row) r (v ∷ []) (λ is. let new = LL.owed R.the-type R′.the-laws r _ is in
         -- [the last values; the rest's tokens; the state's cell; the open borrow; obs; auth; _19 at 6; …; _0 at 44]. What the core returned lands in _10, and is written out field by field
         land ! (from ! (stop !)) (init ! 24 refl (LL.lawful R.the-type R′.the-laws 𝓤 H A W .typed r _ is .0)) $
@@ -206,7 +209,7 @@ module _ {M : Type 1} (𝓤 : URA M) (H : Heap 𝓤) (A : Atoms 𝓤) (W : Given
         owned ! S.the-row (Is S.the-row) (LL.makes S.the-type S′.the-plain 𝓤 H A) (r .state) _ (new .0) $ move ! (3 ∷ 0 ∷ 4 ∷ 5 ∷ 6 ∷ []) $ closes ! tt S.the-row (r .state) (LL.vals S.the-type S′.the-laws (r .state)) b o $
         -- [obs; the borrow; its token; the last values; the rest's tokens; _19 at 5; …; _0 at 43]
         returns ! (look ! 43 refl) $ gone ! 43 refl refl $ gone ! 41 refl refl $ gone ! 39 refl refl $ gone ! 37 refl refl $ gone ! 35 refl refl $ gone ! 33 refl refl $ gone ! 31 refl refl $ gone ! 29 refl refl $ gone ! 27 refl refl $ gone ! 25 refl refl $ gone ! 23 refl refl $ gone ! 21 refl refl $ gone ! 19 refl refl $ gone ! 17 refl refl $ gone ! 15 refl refl $ gone ! 13 refl refl $ gone ! 11 refl refl $ gone ! 9 refl refl $ gone ! 7 refl refl $ gone ! 5 refl refl $ free0 ! $
-        by ! (exits r ws (promised r ws e₀ e₁ e₂ e₃ e₄) (new .1 .0)))))))))))))))))))))))))))))))))
+        by ! (exits r ws (promised r ws e₀ n e₁ e₂ e₃ e₄) (new .1 .0))))))))))))))))))))))))))))))))))
 
 module _ {M : Type 1} (𝓤 : URA M) (H : Heap 𝓤) (A : Atoms 𝓤) (W : Given 𝓤 H A) (at-mem : Memory → SProp 𝓤) (run : Routine → Fun 𝓤) where
   walks : (C : Calls 𝓤 H) (Λ : Loops 𝓤 H) → FmC 𝓤 H (W .laws) C → Triple 𝓤 (C #core) (Core 𝓤 H A at-mem run) → Walks 𝓤 H A lent.ended stayed (WpFn 𝓤 H C Λ code.function) (lent.clauses 𝓤 H A at-mem run)

@@ -44,7 +44,8 @@ use denote.Triple.Entry.{alive, onEntry}
 use denote.Triple.Spec.{Meets, tripleOf}
 use denote.Triple.Table.{entered, cited}
 use denote.Triple.Walked.{Stays, walkOf, Walks, walked, walk-meets}
-use Rattle.monitor.specs.Feed.{Call, feedAnswer, feedState, feedFirst, feedSecond, feedScores, feedLengths}
+use Rattle.monitor.specs.Open.{answerNumber}
+use Rattle.monitor.specs.Feed.{Call, feedAnswer, feedNumber, feedState, feedFirst, feedSecond, feedScores, feedLengths}
 use Rattle.feed.specs.After.{callOf}
 use Rattle.pattern.specs.declared.Pattern.{Pattern}
 use Rattle.pattern.proofs.Pattern as P
@@ -129,6 +130,7 @@ module _ {M : Type 1} (𝓤 : URA M) (H : Heap 𝓤) (A : Atoms 𝓤) (W : Given
   abbrev Said : Answer → State → Last → Item 𝓤
   Said r s ws =
       raw (fact 𝓤 (r ≡ feedAnswer p h t u c)) ⊛
+      raw (fact 𝓤 (answerNumber r ≡ feedNumber p h t u c)) ⊛
       raw (fact 𝓤 (s ≡ feedState p h t u c)) ⊛
       raw (fact 𝓤 (ws .1 .0 ≡ feedFirst p h t u c)) ⊛
       raw (fact 𝓤 (ws .1 .1 .0 ≡ feedSecond p h t u c)) ⊛
@@ -205,7 +207,7 @@ module _ {M : Type 1} (𝓤 : URA M) (H : Heap 𝓤) (A : Atoms 𝓤) (W : Given
         calls-at ! fm (Lent 𝓤 H A at-mem run) known (to-lent α l₉ γ) (and-then ! (load ! (from ! (stop !)) (look ! 20 refl)) (and-then ! (load ! (from ! (stop !)) (look ! 37 refl)) (and-then ! (load ! (from ! (stop !)) (look ! 16 refl)) (and-then ! (load ! (from ! (stop !)) (look ! 12 refl)) (and-then ! (load ! (from ! (stop !)) (look ! 31 refl)) (and-then ! (load ! (from ! (stop !)) (look ! 29 refl)) (and-then ! (load ! (from ! (stop !)) (look ! 8 refl)) (and-then ! (load ! (from ! (stop !)) (look ! 4 refl)) (no-more !))))))))) (λ v.
         use1 W (later (some (λ (r : Answer). ((‵ (flft (α ∷ []) fullShare) ⊛ Toks) ⊛ ‵ (E.the-row .own r (v ∷ []))) ⊛ raw (ensured 𝓤 H A lent.ended (lent.clauses 𝓤 H A at-mem run) (α ∷ [], κs) (x α l₉ γ) tt r)))) (id⊢ 𝓤 _) $ await ! tt $ pick ! (λ r. split ! $ split ! $ split ! $ move ! (3 ∷ []) $
         use1 W (some (λ (ws : Lasts lent.ended (α ∷ [], κs) (x α l₉ γ)). ‵ (lasts lent.ended (α ∷ [], κs) (x α l₉ γ) ws) ⊛ Said r (ws .0) (ws .1))) (id⊢ 𝓤 _) $ pick ! (λ ws. split ! $ move ! (1 ∷ []) $
-        split ! $ heard ! _ (λ e₀. split ! $ heard ! _ (λ e₁. split ! $ heard ! _ (λ e₂. split ! $ heard ! _ (λ e₃. split ! $ heard ! _ (λ e₄. heard ! _ (λ e₅. fsplit ! $
+        split ! $ heard ! _ (λ e₀. split ! $ heard ! _ (λ _. split ! $ heard ! _ (λ e₁. split ! $ heard ! _ (λ e₂. split ! $ heard ! _ (λ e₃. split ! $ heard ! _ (λ e₄. heard ! _ (λ e₅. fsplit ! $
         -- [the state's last value; those of the rest; the new token; the rest's tokens; the answer; the lender's part; _20 at 6; …]. The lifetime is ended, and the local comes back
         move ! (2 ∷ []) $ lft-end ! tt $ move ! (0 ∷ 5 ∷ 1 ∷ []) $ use3 W (later (‵ (mem S.the-row .lies (ws .0) l₉ zero))) (ref-back 𝓤 H A W S.the-row (α ∷ []) γ (ws .0) l₉ zero) $ await ! tt $
         use1 W (given (Is S.the-row (ws .0) (LL.vals S.the-type S′.the-laws (ws .0))) (‵ (fat fullShare S′.mir l₉ zero (LL.val S.the-type S′.the-laws (ws .0))))) (lies-out 𝓤 H A W S.the-type S′.the-laws S′.the-plain l₉ (ws .0)) $ learn ! (λ is.
@@ -217,7 +219,7 @@ module _ {M : Type 1} (𝓤 : URA M) (H : Heap 𝓤) (A : Atoms 𝓤) (W : Given
         assigns ! (agg ! (and-then ! (load ! (from ! (stop !)) (look ! 3 refl)) (and-then ! (load ! (from ! (stop !)) (look ! 23 refl)) (no-more !)))) (from ! (stop !)) (init ! 42 refl (LL.lawful R.the-type R′.the-laws 𝓤 H A W .typed (both (ws .0) r) _ got .0)) $
         move ! (0 ∷ 25 ∷ []) $ returns ! (look ! 42 refl) $
         gone ! 42 refl refl $ gone ! 40 refl refl $ gone ! 38 refl refl $ gone ! 36 refl refl $ gone ! 34 refl refl $ gone ! 32 refl refl $ gone ! 30 refl refl $ gone ! 28 refl refl $ gone ! 26 refl refl $ gone ! 0 refl refl $ gone ! 22 refl refl $ gone ! 20 refl refl $ gone ! 18 refl refl $ gone ! 16 refl refl $ gone ! 14 refl refl $ gone ! 12 refl refl $ gone ! 10 refl refl $ gone ! 8 refl refl $ gone ! 6 refl refl $ gone ! 4 refl refl $ gone ! 2 refl refl $ free0 ! $
-        by ! (exits r (ws .0) (ws .1) (promised r (ws .0) (ws .1) e₀ e₁ e₂ e₃ e₄ e₅) got)))))))))))))))))))))))))))))))))))
+        by ! (exits r (ws .0) (ws .1) (promised r (ws .0) (ws .1) e₀ e₁ e₂ e₃ e₄ e₅) got))))))))))))))))))))))))))))))))))))
 
 module _ {M : Type 1} (𝓤 : URA M) (H : Heap 𝓤) (A : Atoms 𝓤) (W : Given 𝓤 H A) (at-mem : Memory → SProp 𝓤) (run : Routine → Fun 𝓤) where
   walks : (C : Calls 𝓤 H) (Λ : Loops 𝓤 H) → FmC 𝓤 H (W .laws) C → Triple 𝓤 (C #lent) (Lent 𝓤 H A at-mem run) → Walks 𝓤 H A through.ended stayed (WpFn 𝓤 H C Λ code.function) (through.clauses 𝓤 H A at-mem run)

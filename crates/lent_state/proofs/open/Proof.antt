@@ -42,7 +42,7 @@ use denote.Triple.Entry.{alive, onEntry}
 use denote.Triple.Spec.{Meets, tripleOf}
 use denote.Triple.Table.{entered, cited}
 use denote.Triple.Walked.{Stays, stay-ref, walkOf, AllGo, goes-ref, Walks, walked, walk-meets}
-use Rattle.monitor.specs.Open.{openAnswer, openState, openFirst, openSecond}
+use Rattle.monitor.specs.Open.{answerNumber, openAnswer, openNumber, openState, openFirst, openSecond}
 use Rattle.feed.specs.After.{openedOf}
 use Rattle.pattern.specs.declared.Pattern.{Pattern}
 use Rattle.pattern.proofs.Pattern as P
@@ -119,17 +119,19 @@ module _ {M : Type 1} (𝓤 : URA M) (H : Heap 𝓤) (A : Atoms 𝓤) (W : Given
   abbrev Said : After → Lasts core.ended κs (h, a) → Item 𝓤
   Said r ws =
       raw (fact 𝓤 (r ≡ openedOf p t u h)) ⊛
+      raw (fact 𝓤 (answerNumber (r .answer) ≡ openNumber p t u)) ⊛
       raw (fact 𝓤 (ws .1 .1 .0 ≡ openFirst p t u)) ⊛
       raw (fact 𝓤 (ws .1 .1 .1 .0 ≡ openSecond p t u))
 
   -- it is what `open` owes of the answer, the state and each slice
-  promised : (r : After) (ws : Lasts core.ended κs (h, a)) → r ≡ openedOf p t u h → ws .1 .1 .0 ≡ openFirst p t u → ws .1 .1 .1 .0 ≡ openSecond p t u
+  promised : (r : After) (ws : Lasts core.ended κs (h, a)) → r ≡ openedOf p t u h → answerNumber (r .answer) ≡ openNumber p t u → ws .1 .1 .0 ≡ openFirst p t u → ws .1 .1 .1 .0 ≡ openSecond p t u
       → ent 𝓤 (emp 𝓤) (lent.clauses 𝓤 H A at-mem run (κ, κs) x .ensures tt (r .answer) (atExit lent.ended (κ, κs) x (r .state, ws .1)))
-  promised r ws e₀ e₁ e₂ =
+  promised r ws e₀ n e₁ e₂ =
       told-first 𝓤 (ap (λ (s : After). s .answer) e₀)
+      (told-first 𝓤 n
       (told-first 𝓤 (ap (λ (s : After). s .state) e₀)
       (told-first 𝓤 e₁
-      (told 𝓤 e₂)))
+      (told 𝓤 e₂))))
 
   exits : (r : After) (ws : Lasts core.ended κs (h, a)) → ent 𝓤 (emp 𝓤) (lent.clauses 𝓤 H A at-mem run (κ, κs) x .ensures tt (r .answer) (atExit lent.ended (κ, κs) x (r .state, ws .1))) → Is E.the-row (r .answer) (EE.val E.the-type E′.the-laws (r .answer) ∷ [])
       → ent 𝓤 (sep 𝓤 (A .obs γ (S.the-row .coded .code (r .state))) (sep 𝓤 (A .bor κ (Body (mem S.the-row) b o γ)) (sep 𝓤 (A .lft κ q) (sep 𝓤 (sem 𝓤 H A (lasts core.ended κs (h, a) ws)) (alive 𝓤 H A core.signature κs qs))))) (Post (EE.val E.the-type E′.the-laws (r .answer)))
@@ -176,7 +178,7 @@ module _ {M : Type 1} (𝓤 : URA M) (H : Heap 𝓤) (A : Atoms 𝓤) (W : Given
         calls-at ! fm (Core 𝓤 H A at-mem run) known to-core (and-then ! (load ! (from ! (stop !)) (look ! 17 refl)) (and-then ! (load ! (from ! (stop !)) (look ! 23 refl)) (and-then ! (load ! (from ! (stop !)) (look ! 9 refl)) (and-then ! (load ! (from ! (stop !)) (look ! 5 refl)) (no-more !))))) (λ v.
         use1 W (later (some (λ (r : After). (Toks ⊛ ‵ (R.the-row .own r (v ∷ []))) ⊛ raw (ensured 𝓤 H A core.ended (core.clauses 𝓤 H A at-mem run) κs (h, a) tt r)))) (id⊢ 𝓤 _) $ await ! tt $ pick ! (λ r. split ! $ split ! $ move ! (2 ∷ []) $
         use1 W (some (λ (ws : Lasts core.ended κs (h, a)). ‵ (lasts core.ended κs (h, a) ws) ⊛ Said r ws)) (id⊢ 𝓤 _) $ pick ! (λ ws. split ! $ move ! (1 ∷ []) $
-        split ! $ heard ! _ (λ e₀. split ! $ heard ! _ (λ e₁. heard ! _ (λ e₂.
+        split ! $ heard ! _ (λ e₀. split ! $ heard ! _ (λ n. split ! $ heard ! _ (λ e₁. heard ! _ (λ e₂.
         move ! (2 ∷ []) $ facts ! R.the-row (Is R.the-row) (shows 𝓤 H A R.the-row) r (v ∷ []) (λ is. let new = LL.owed R.the-type R′.the-laws r _ is in
         -- [the last values; the rest's tokens; the state's cell; the open borrow; obs; auth; _11 at 6; …; _0 at 28]. What the core returned lands in _6, and is written out field by field
         land ! (from ! (stop !)) (init ! 16 refl (LL.lawful R.the-type R′.the-laws 𝓤 H A W .typed r _ is .0)) $
@@ -188,7 +190,7 @@ module _ {M : Type 1} (𝓤 : URA M) (H : Heap 𝓤) (A : Atoms 𝓤) (W : Given
         owned ! S.the-row (Is S.the-row) (LL.makes S.the-type S′.the-plain 𝓤 H A) (r .state) _ (new .0) $ move ! (3 ∷ 0 ∷ 4 ∷ 5 ∷ 6 ∷ []) $ closes ! tt S.the-row (r .state) (LL.vals S.the-type S′.the-laws (r .state)) b o $
         -- [obs; the borrow; its token; the last values; the rest's tokens; _11 at 5; …; _0 at 27]
         returns ! (look ! 27 refl) $ gone ! 27 refl refl $ gone ! 25 refl refl $ gone ! 23 refl refl $ gone ! 21 refl refl $ gone ! 19 refl refl $ gone ! 17 refl refl $ gone ! 15 refl refl $ gone ! 13 refl refl $ gone ! 11 refl refl $ gone ! 9 refl refl $ gone ! 7 refl refl $ gone ! 5 refl refl $ free0 ! $
-        by ! (exits r ws (promised r ws e₀ e₁ e₂) (new .1 .0)))))))))))))))))))))))
+        by ! (exits r ws (promised r ws e₀ n e₁ e₂) (new .1 .0))))))))))))))))))))))))
 
 module _ {M : Type 1} (𝓤 : URA M) (H : Heap 𝓤) (A : Atoms 𝓤) (W : Given 𝓤 H A) (at-mem : Memory → SProp 𝓤) (run : Routine → Fun 𝓤) where
   walks : (C : Calls 𝓤 H) (Λ : Loops 𝓤 H) → FmC 𝓤 H (W .laws) C → Triple 𝓤 (C #core) (Core 𝓤 H A at-mem run) → Walks 𝓤 H A lent.ended stayed (WpFn 𝓤 H C Λ code.function) (lent.clauses 𝓤 H A at-mem run)

@@ -4,6 +4,7 @@ use lib.ListN.{length}
 use borrow.Author.Tests.{lt-ltb, le-ltb}
 use Rattle.pattern_text.specs.Text.{readOf}
 use Rattle.pattern_read.specs.Finish.{refusedOf}
+use Rattle.pattern_read.proofs.Numbers.{told}
 use Rattle.pattern_read.proofs.read.Statement.{statement}
 use Rattle.pattern_read.proofs.read.Tie as tie
 
@@ -12,7 +13,9 @@ refused-requires c κs = tt
 
 returns : tie.Need-returns
 unfolding readOf refusedOf
-returns c = rw (lt-ltb 8_192 (length (c .before .before .before .args .text .now)) (c .before .if1 .taken)) (c .refused .ensures)
+returns c =
+    let t = c .before .before .before .args .text .now in
+    told t _ (rw (lt-ltb 8_192 (length t) (c .before .if1 .taken)) (c .refused .ensures))
 
 read-lines-requires : tie.Need-read-lines-requires
 read-lines-requires c κs = tt
@@ -22,7 +25,9 @@ finish-requires c κs = tt
 
 returns-2 : tie.Need-returns-2
 unfolding readOf
-returns-2 c = rw (le-ltb 8_192 (length (c .before .before .before .before .args .text .now)) (c .before .before .if1 .left)) (c .finish .ensures ∙ c .before .read-lines .ensures)
+returns-2 c =
+    let t = c .before .before .before .before .args .text .now in
+    told t _ (rw (le-ltb 8_192 (length t) (c .before .before .if1 .left)) (c .finish .ensures ∙ c .before .read-lines .ensures))
 
 pub read-spec : {M : Type 1} → statement M
 read-spec = tie.close (tie.spec refused-requires returns read-lines-requires finish-requires returns-2)

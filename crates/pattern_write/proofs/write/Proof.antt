@@ -1,14 +1,13 @@
 -- A sound pattern's text fits the buffer, so the buffer holds it whole.
 use Prim.Native.Nat.{ℕ}
 use mathlib.Core.Bool.{true}
-use mathlib.Core.Path.{_≡_, sym, ap, _∙_}
+use mathlib.Core.Path.{_≡_, sym, _∙_}
 use borrow.Author.Tests.{not-true, not-false}
 use lib.ListN.{length-replicate}
 use lib.Seq.{length-take-le}
 use Rattle.pattern.specs.Sound.{soundOf}
 use Rattle.pattern_text.specs.Text.{renderOf}
 use Rattle.pattern_text.proofs.Theorems.{texts-short}
-use Rattle.pattern_write.specs.declared.Written.the-variants.{Length}
 use Rattle.pattern_write.proofs.Answers.{Whole, whole, copied, unsound, too-short, written}
 use native.Mathlib.Omega.{arith}
 use borrow.Author.Needs.{needs}
@@ -62,8 +61,7 @@ returns-3 c =
     let out = t .before .before .before .before .before .args .out .now in
     let w = in-text t in
     let s = w .size in
-    let a = written p out (is-sound (t .before .before)) (omega arith) in
-    (ap Length (w .size) ∙ a .0, copied out w (c .before .before .copy .ensures .1) ∙ a .1)
+    written p out (is-sound (t .before .before)) (omega arith) (w .size) (copied out w (c .before .before .copy .ensures .1))
 
 pub write-spec : {M : Type 1} → statement M
 write-spec =

@@ -1,18 +1,26 @@
 -- `check` meets its contract: 1, or what the walk over the lines ends with.
-use Prim.Native.Nat.{_<_}
+use Prim.Native.Nat.{ℕ, _<_}
 use native.Mathlib.Omega.{arith}
-use mathlib.Core.Path.{refl, _∙_}
+use mathlib.Core.Path.{_≡_, refl, ap, _∙_}
 use lib.ListN.{length}
 use borrow.Author.Tests.{lt-ltb, le-ltb}
+use Rattle.pattern_text.specs.Bytes.{Bytes}
 use Rattle.record_text.specs.Text.{recordRefusal}
+use Rattle.record_read.specs.declared.Checked.{Checked}
+use Rattle.record_read.specs.Check.{checkedOf, checkedAs, checkNumber}
+use Rattle.record_read.proofs.Numbers.{check-numbers}
 use Rattle.record_read.proofs.check.Statement.{statement}
 use Rattle.record_read.proofs.check.Tie as tie
+
+-- the answer, and what it says in numbers
+told : (n : ℕ) (t : Bytes) (r : Checked) → r ≡ checkedOf (recordRefusal n t) → (r ≡ checkedOf (recordRefusal n t)) × (checkedAs r ≡ checkNumber n t)
+told n t r e = (e, ap checkedAs e ∙ check-numbers n t)
 
 returns : tie.Need-returns
 unfolding recordRefusal
 returns c =
     let h : 16_384 < length (c .before .before .args .text .now) = omega (arith, c .if1 .taken) in
-    rw (lt-ltb 16_384 (length (c .before .before .args .text .now)) h) refl
+    told (c .before .before .args .channels) (c .before .before .args .text .now) _ (rw (lt-ltb 16_384 (length (c .before .before .args .text .now)) h) refl)
 
 check-lines-requires : tie.Need-check-lines-requires
 check-lines-requires c κs = omega (arith, c .if1 .left)
@@ -22,7 +30,9 @@ finish-requires c κs = tt
 
 returns-2 : tie.Need-returns-2
 unfolding recordRefusal
-returns-2 c = rw (le-ltb 16_384 (length (c .before .before .before .before .args .text .now)) (c .before .before .if1 .left)) (c .finish .ensures ∙ c .before .check-lines .ensures)
+returns-2 c =
+    let a = c .before .before .before .before .args in
+    told (a .channels) (a .text .now) _ (rw (le-ltb 16_384 (length (a .text .now)) (c .before .before .if1 .left)) (c .finish .ensures ∙ c .before .check-lines .ensures))
 
 pub check-spec : {M : Type 1} → statement M
 check-spec = tie.close (tie.spec returns check-lines-requires finish-requires returns-2)

@@ -37,7 +37,7 @@ returns : tie.Need-returns
 returns c =
     let st = c .before .before .before .before .before .before .before .before .before in
     let a = st .args in
-    let e : recordRefusal (a .p .channels) (a .text .now) ≡ none = checked-sound _ (sym (c .before .before .before .before .before .enum-told .given .1) ∙ c .before .before .before .before .before .before .before .check .ensures) in
+    let e : recordRefusal (a .p .channels) (a .text .now) ≡ none = checked-sound _ (sym (c .before .before .before .before .before .enum-told .given .1) ∙ c .before .before .before .before .before .before .before .check .ensures .0) in
     let o = c .before .before .opened .ensures in (
       ap (dueFor (a .text .now)) (o .0) ∙ opened-due (a .p) (st .pre .0) (a .first .now) (a .second .now) (st .pre .1) (st .pre .2) (a .text .now) e,
       rw (o .0, o .1 .0, o .1 .1) (opened-standing (a .p) (st .pre .0) (a .first .now) (a .second .now) (st .pre .1) (st .pre .2) (a .text .now) e),
@@ -46,7 +46,7 @@ returns c =
 returns-2 : tie.Need-returns-2
 returns-2 c =
     let a = c .before .before .before .before .before .before .before .args in
-    let e : recordRefusal (a .p .channels) (a .text .now) ≡ some _ = checked-refused _ _ (sym (c .before .before .before .cause .given .1) ∙ c .before .before .before .before .before .check .ensures) in
+    let e : recordRefusal (a .p .channels) (a .text .now) ≡ some _ = checked-refused _ _ (sym (c .before .before .before .cause .given .1) ∙ c .before .before .before .before .before .check .ensures .0) in
     (rw (c .start-at .ensures, e), rw (c .start-at .ensures) tt)
 
 pub judged-spec : {M : Type 1} → statement M

@@ -22,7 +22,7 @@ enum-told c = search needs
 judged-requires : tie.Need-judged-requires
 judged-requires c κs =
     let st = c .before .before .before .before .before .before .before .before in
-    let e = c .before .before .before .before .before .read .ensures in
+    let e = c .before .before .before .before .before .read .ensures .0 in
     let is = read-accepted (readOf (st .args .pattern .now)) (sym (c .before .before .enum-told .given .1) ∙ ap (λ (x : PatternRead). x .outcome) e) in
     (subst (λ (q : Pattern). soundOf q ≡ true) (sym (ap (λ (x : PatternRead). x .pattern) e)) (sound-means-read _ .1 (st .args .pattern .now, is)), st .pre .0, st .pre .1)
 
@@ -44,7 +44,7 @@ same-length-2 c = search needs
 returns : tie.Need-returns
 returns c =
     let st = c .before .before .before .before .before .before .before .before .before .before .before in
-    let e = c .before .before .before .before .before .before .before .before .read .ensures in
+    let e = c .before .before .before .before .before .before .before .before .read .ensures .0 in
     let is = read-accepted (readOf (st .args .pattern .now)) (sym (c .before .before .before .before .before .enum-told .given .1) ∙ ap (λ (x : PatternRead). x .outcome) e) in
     let o = c .before .before .judged .ensures in
     (o .0 ∙ ap (λ (q : Answer). answeredWith q (st .args .text .now)) (ap (λ (x : PatternRead). accepted (x .pattern)) e ∙ sym is), o .1)
@@ -52,7 +52,7 @@ returns c =
 returns-2 : tie.Need-returns-2
 returns-2 c =
     let st = c .before .before .before .before .before .before .before .before .before in
-    let e = c .before .before .before .before .before .before .read .ensures in
+    let e = c .before .before .before .before .before .before .read .ensures .0 in
     let is = read-refused (readOf (st .args .pattern .now)) _ (sym (c .before .before .before .outcome .given .1) ∙ ap (λ (x : PatternRead). x .outcome) e) in
     (rw (c .start-at .ensures, is), rw (c .start-at .ensures) tt)
 
