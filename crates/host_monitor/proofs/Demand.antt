@@ -14,6 +14,7 @@ use Rattle.pattern.specs.declared.Refusal.the-variants.{TextTooLong, BrokenForm
 use Rattle.pattern.specs.Refusal.{numberOf}
 use Rattle.pattern.specs.Slots.{all}
 use Rattle.pattern.proofs.SoundLaws.{both, parts}
+use Rattle.pattern_text.specs.Bytes.{Bytes}
 use Rattle.pattern_text.specs.Text.{Answer, accepted, readOf}
 use Rattle.pattern_text.proofs.Tools.{all-append}
 use Rattle.record.specs.Record.{Book, valueInRange}
@@ -57,22 +58,31 @@ after-is-state p s t u c k = by (feedRefusal p s t u c) refl
           values = all-append isValue (c .values) (drop (p .channels) (s .last)) (all-values (c .values) (f .piece .values)) (all-drop isValue (p .channels) (s .last) (k .values));
         }
 
-goes-on : (p : Pattern) (l t u : List ℤ) (c : Call) → holdsState l ≡ true → GoesOn p l t u c
-goes-on p l t u c e =
-    let w = written-is-read (feedState p (stateIn l) t u c) l (after-is-state p (stateIn l) t u c (held-is-state l e)) in
-    record { number = rw e; holds = rw e (w .0); state = rw e (w .1); first = rw e; second = rw e; scores = rw e; lengths = rw e }
+module _ (x : Bytes) (p : Pattern) (is : readOf x ≡ accepted p) where
+  goes-on : (l t u : List ℤ) (c : Call) → holdsState l ≡ true → GoesOn x p l t u c
+  goes-on l t u c e =
+      let w = written-is-read (feedState p (stateIn l) t u c) l (after-is-state p (stateIn l) t u c (held-is-state l e)) in
+      record {
+        number = rw (is, e);
+        holds = rw (is, e) (w .0);
+        state = rw (is, e) (w .1);
+        first = rw (is, e);
+        second = rw (is, e);
+        scores = rw (is, e);
+        lengths = rw (is, e);
+      }
 
-all-fed : (p : Pattern) (cs : List Call) (b : Book) (l t u : List ℤ) → holdsState l ≡ true → AllRight p b (stateIn l) t u cs → AllFed p b l t u cs
-all-fed p [] b l t u e r = tt
-all-fed p (c ∷ cs) b l t u e r =
-    let g = goes-on p l t u c e in (
-      g,
-      (
-        r .0,
-        all-fed p cs (bookAfter p b c) (fedState (accepted p) l t u c) (fedFirst (accepted p) l t u c) (fedSecond (accepted p) l t u c) (g .holds)
-            (rw (g .state, g .first, g .second) (r .1)),
-      ),
-    )
+  all-fed : (cs : List Call) (b : Book) (l t u : List ℤ) → holdsState l ≡ true → AllRight p b (stateIn l) t u cs → AllFed x p b l t u cs
+  all-fed [] b l t u e r = tt
+  all-fed (c ∷ cs) b l t u e r =
+      let g = goes-on l t u c e in (
+        g,
+        (
+          r .0,
+          all-fed cs (bookAfter p b c) (fedState (readOf x) l t u c) (fedFirst (readOf x) l t u c) (fedSecond (readOf x) l t u c) (g .holds)
+              (rw (g .state, g .first, g .second) (r .1)),
+        ),
+      )
 
 -- no refusal has the number 0
 some-number : (r : Refusal) → 1 ≤ numberOf r
@@ -109,5 +119,5 @@ host-demand3 x p i l t u e calls =
     let g : openedSecond (readOf x) l t u ≡ openSecond p t u = rw (i, k .0) in
     let d : AllRight p [] (openState p t u noTicks) (openFirst p t u) (openSecond p t u) calls = demand3 p noTicks t u (k .1) calls in
     let s : openState p t u noTicks ≡ noTicks = rw (k .1) in
-    rw (o, f, g) (all-fed p calls [] (withState noTicks l) (openFirst p t u) (openSecond p t u) (w .0)
+    rw (o, f, g) (all-fed x p i calls [] (withState noTicks l) (openFirst p t u) (openSecond p t u) (w .0)
     (subst (λ (q : State). AllRight p [] q (openFirst p t u) (openSecond p t u) calls) (s ∙ sym (w .1)) d))

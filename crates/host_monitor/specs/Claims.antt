@@ -53,28 +53,30 @@ FeedRefusedAltersNothing =
 
 -- ---- demand 3
 
--- A feed from C whose slice holds a state is the library's feed of that state: it answers the same and leaves the same, and
--- the slice then holds the state that the library's feed leaves.
-pub record GoesOn (p : Pattern) (l t u : List ℤ) (c : Call) : Type 0 where
-  pub number : fedNumber (accepted p) l t u c ≡ answerNumber (feedAnswer p (stateIn l) t u c)
-  pub holds : holdsState (fedState (accepted p) l t u c) ≡ true
-  pub state : stateIn (fedState (accepted p) l t u c) ≡ feedState p (stateIn l) t u c
-  pub first : fedFirst (accepted p) l t u c ≡ feedFirst p (stateIn l) t u c
-  pub second : fedSecond (accepted p) l t u c ≡ feedSecond p (stateIn l) t u c
-  pub scores : fedScores (accepted p) l t u c ≡ feedScores p (stateIn l) t u c
-  pub lengths : fedLengths (accepted p) l t u c ≡ feedLengths p (stateIn l) t u c
+-- A feed from C, with a text x that is read as p and a slice that holds a state, is the library's feed of that state: it answers
+-- the same and leaves the same, and the slice then holds the state that the library's feed leaves.
+pub record GoesOn (x : Bytes) (p : Pattern) (l t u : List ℤ) (c : Call) : Type 0 where
+  pub number : fedNumber (readOf x) l t u c ≡ answerNumber (feedAnswer p (stateIn l) t u c)
+  pub holds : holdsState (fedState (readOf x) l t u c) ≡ true
+  pub state : stateIn (fedState (readOf x) l t u c) ≡ feedState p (stateIn l) t u c
+  pub first : fedFirst (readOf x) l t u c ≡ feedFirst p (stateIn l) t u c
+  pub second : fedSecond (readOf x) l t u c ≡ feedSecond p (stateIn l) t u c
+  pub scores : fedScores (readOf x) l t u c ≡ feedScores p (stateIn l) t u c
+  pub lengths : fedLengths (readOf x) l t u c ≡ feedLengths p (stateIn l) t u c
 
--- A list of feeds from C, each going on from what the one before it left: each is the library's feed, and right as demand 3
--- says (`monitor/specs/Demand` Right: accepted or refused by the book, with the best runs as its reports).
-abbrev pub AllFed : Pattern → Book → (state first second : List ℤ) → List Call → Type 0
-AllFed p b l t u [] = Unit
-AllFed p b l t u (c ∷ cs) =
-    GoesOn p l t u c
+-- A list of feeds from C, each with the same text x and going on from what the one before it left: each is the library's feed,
+-- and right as demand 3 says (`monitor/specs/Demand` Right: accepted or refused by the book, with the best runs as its reports).
+abbrev pub AllFed : Bytes → Pattern → Book → (state first second : List ℤ) → List Call → Type 0
+AllFed x p b l t u [] = Unit
+AllFed x p b l t u (c ∷ cs) =
+    GoesOn x p l t u c
     × (Right p (refusalBy p b c) b (stateIn l) t u c
-    × AllFed p (bookAfter p b c) (fedState (accepted p) l t u c) (fedFirst (accepted p) l t u c) (fedSecond (accepted p) l t u c) cs)
+    × AllFed x p (bookAfter p b c) (fedState (readOf x) l t u c) (fedFirst (readOf x) l t u c) (fedSecond (readOf x) l t u c) cs)
 
--- Demand 3 of the functions for C: for every list of feeds after an accepted opening, with whatever the slices held before it.
+-- Demand 3 of the functions for C: for every list of feeds after an accepted opening, with whatever the slices held before it,
+-- where every call of the list has the text of the opening. The pattern is read anew at each call, and nothing keeps a host
+-- from changing the text between two calls: then the cells are taken as the worths they say for the other pattern.
 abbrev pub HostDemand3 : Type 0
 HostDemand3 =
     (x : Bytes) (p : Pattern) → readOf x ≡ accepted p → (l t u : List ℤ) → openedNumber (readOf x) l t u ≡ 0 → (calls : List Call)
-    → AllFed p [] (openedState (readOf x) l t u) (openedFirst (readOf x) l t u) (openedSecond (readOf x) l t u) calls
+    → AllFed x p [] (openedState (readOf x) l t u) (openedFirst (readOf x) l t u) (openedSecond (readOf x) l t u) calls

@@ -2,54 +2,35 @@
 use Prim.Native.Nat.{ℕ}
 use Prim.Native.String.{String}
 use mathlib.Core.Path.{_≡_, refl}
-use mathlib.Core.List.{_∷_, _++_}
+use mathlib.Core.List.{_++_}
 use mathlib.Core.Bool.{Bool, true, false}
 use lib.ListN.{replicate}
-use lib.IntN.{pos}
-use Rattle.pattern.specs.declared.Sign.the-variants.{Less, AtMost, More}
-use Rattle.pattern.specs.declared.Kind.the-variants.{Start, Plain, End}
-use Rattle.weighting.specs.declared.Weighing.the-variants.{Margin}
+use Rattle.weighting.specs.declared.Weighing.{Weighing}
+use Rattle.weighting.specs.declared.Weighing.the-variants.{Margin, Sum}
 use Rattle.pattern.specs.declared.Refusal.the-variants.{BrokenForm, OutOfRange, TooMany, UnknownIndex}
-use Rattle.pattern.specs.declared.Pattern.{Pattern}
-use Rattle.pattern.specs.Sound.{noTest, noPlace, noGuard, noEdge, testInRange, testKnown, guardInRange, guardKnown, headerInRange}
+use Rattle.pattern.specs.Sound.{testInRange, testKnown, guardInRange, guardKnown, headerInRange}
 use Rattle.pattern_text.specs.Bytes.{Bytes, bytes}
 use Rattle.pattern_text.specs.Numeral.{decimalF, decimal, front, after, plain, valueFrom, numeralOf}
 use Rattle.pattern_text.specs.Form.{strip, _▸_, _◂_, _⨾_, firstOf, oneOf, writeMany, readMany, many, mapped, number, writeℤ, integer}
 use Rattle.pattern_text.specs.Line.{weighing, kind, resets, signWord, kindWord, weighingWord, sign, test, guard, bracket, writeResets, headerLine, placeLine, edgeLine, renderLine, readLine, lineOf}
 use Rattle.pattern_text.specs.Fault.{judged, rising, edgeKnown, headerFault, placeFault, edgeFault, stepOf}
 use Rattle.pattern_text.specs.Text.{Answer, linesOf, pad, among, flags, flagged, placeOf, edgeOf, patternOf, placeLineOf, edgeLineOf, docOf, finish, readLines, readOf, rawsOf, ended, renderOf, accepted, refused}
+use Rattle.pattern_text.specs.Example.{exampleText, example}
 
 -- `readOf` of a quoted text, with all that it computes by
 readText : String → Answer
 unfolding strip _▸_ _◂_ _⨾_ firstOf oneOf writeMany readMany many mapped number writeℤ integer decimalF decimal front after plain valueFrom numeralOf signWord kindWord weighingWord sign kind weighing test guard bracket writeResets resets headerLine placeLine edgeLine renderLine readLine lineOf testInRange testKnown guardInRange guardKnown headerInRange judged rising edgeKnown headerFault placeFault edgeFault stepOf linesOf pad among flags flagged placeOf edgeOf patternOf placeLineOf edgeLineOf docOf finish readLines readOf rawsOf ended renderOf
 readText s = readOf (bytes s)
 
-example : Pattern
-example = record {
-  weighing = Margin;
-  channels = 1;
-  clocks = 1;
-  low = 1;
-  high = 4;
-  placecount = 3;
-  places = record { kind = Start; tests = record { sign = Less; channel = 0; bound = pos 15 } ∷ replicate 3 noTest; count = 1 }
-      ∷ record { kind = Plain; tests = record { sign = More; channel = 0; bound = pos 5 } ∷ replicate 3 noTest; count = 1 }
-      ∷ record { kind = End; tests = replicate 4 noTest; count = 0 } ∷ replicate 13 noPlace;
-  edgecount = 2;
-  edges = record { from = 0; to = 1; guards = record { sign = Less; clock = 0; bound = 3 } ∷ replicate 3 noGuard; count = 1; resets = true ∷ replicate 3 false }
-      ∷ record { from = 1; to = 2; guards = record { sign = AtMost; clock = 0; bound = 2 } ∷ replicate 3 noGuard; count = 1; resets = replicate 4 false } ∷ replicate 30 noEdge;
-}
+pub reads : (w : Weighing) → readOf (exampleText w) ≡ accepted (example w)
+unfolding readText
+reads Margin = refl
+reads Sum = refl
 
-example-text : String
-example-text = "(pattern margin 1 1 1 4)\n(place start (< 0 15))\n(place plain (> 0 5))\n(place end)\n(edge 0 1 (< 0 3) (reset 0))\n(edge 1 2 (<= 0 2))\n"
-
-reads : readText example-text ≡ accepted example
-unfolding readText example example-text
-reads = refl
-
-writes : renderOf example ≡ bytes example-text
-unfolding readText example example-text
-writes = refl
+writes : (w : Weighing) → renderOf (example w) ≡ exampleText w
+unfolding readText
+writes Margin = refl
+writes Sum = refl
 
 -- `-0`
 minus-zero : readText "(pattern margin 1 1 1 4)\n(place start (< 0 -0))\n" ≡ refused BrokenForm

@@ -6,4 +6,5 @@ pub mod Line
 pub mod Fault
 pub mod Text
 pub mod Claims
+pub mod Example
 pub mod Examples

@@ -13,6 +13,7 @@ use Rattle.pattern_text.specs.Form.{strip, _▸_, _◂_, _⨾_, writeMany, read
 use Rattle.record.specs.Record.{total, recordSound}
 use Rattle.record_text.specs.Piece.{RawPiece, value, pieceLine}
 use Rattle.record_text.specs.Text.{recordForm, renderRecord, readRecord, durationsOf, valuesOf, countsFit, piecesSound, recordRefusal}
+use Rattle.record_text.specs.Example.{exampleText, example}
 
 -- a quoted text, with all that reading it computes by
 readText : String → Option (List RawPiece)
@@ -23,22 +24,16 @@ refusedFor : (channels : ℕ) → String → Option Refusal
 unfolding readText
 refusedFor n s = recordRefusal n (bytes s)
 
-example : List RawPiece
-example = record { duration = 2; value = pos 10; further = [] } ∷ record { duration = 2; value = pos 40; further = [] } ∷ []
-
-example-text : String
-example-text = "(piece 2 10)\n(piece 2 40)\n"
-
-reads : readText example-text ≡ some example
-unfolding readText example example-text
+pub reads : readRecord exampleText ≡ some example
+unfolding readText
 reads = refl
 
-writes : renderRecord example ≡ bytes example-text
-unfolding readText example example-text
+writes : renderRecord example ≡ exampleText
+unfolding readText
 writes = refl
 
-sound : refusedFor 1 example-text ≡ none
-unfolding readText refusedFor example-text
+pub sound : recordRefusal 1 exampleText ≡ none
+unfolding readText
 sound = refl
 
 -- an empty record has no pieces

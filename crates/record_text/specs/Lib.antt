@@ -2,4 +2,5 @@
 pub mod Piece
 pub mod Text
 pub mod Claims
+pub mod Example
 pub mod Examples

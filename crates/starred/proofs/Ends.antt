@@ -17,7 +17,8 @@ use Rattle.pattern.proofs.SoundLaws.{both}
 use Rattle.record.specs.Run.{Step, lengthOf}
 use Rattle.record.specs.Worth.{priceOf}
 use Rattle.monitor.specs.Demand.{InWindow, BestRun, NoRun}
-use Rattle.starred.specs.Example.{example, book}
+use Rattle.pattern_text.specs.Example.{example}
+use Rattle.starred.specs.Example.{book}
 use Rattle.starred.proofs.Runs.{two, Two, runs-are, priced-run}
 
 module _ (w : Weighing) where

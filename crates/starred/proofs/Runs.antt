@@ -19,7 +19,7 @@ use Rattle.record.specs.Record.{Book}
 use Rattle.record.specs.Run.{Step, canStep, goes, isRun, lengthOf}
 use Rattle.record.specs.Worth.{priceOf, runWorth}
 use Rattle.record.proofs.StepLaws.{can-parts}
-use Rattle.starred.specs.Example.{example}
+use Rattle.pattern_text.specs.Example.{example}
 
 no : _≡_ {A = Bool} false true → ⊥
 no e = let z : _≡_ {A = ℕ} 0 1 = cc in omega arith

@@ -1,60 +1,17 @@
--- Document 01's pattern ('Pattern text'), as a value:
---   (pattern margin 1 1 1 4)
---   (place start (< 0 15))
---   (place plain (> 0 5))
---   (place end)
---   (edge 0 1 (< 0 3) (reset 0))
---   (edge 1 2 (<= 0 2))
+-- Document 01's record as `price` and `best` take it, and its ticks. The pattern and the record stand, with their texts, in
+-- `pattern_text/specs` and `record_text/specs` Example.
 use Prim.Native.Nat.{ℕ}
-use mathlib.Core.List.{List, [], _∷_}
-use mathlib.Core.Bool.{true, false}
-use lib.ListN.{replicate}
-use lib.IntN.{ℤ, pos}
-use Rattle.weighting.specs.declared.Weighing.{Weighing}
-use Rattle.pattern.specs.declared.Sign.the-variants.{Less, AtMost, More}
-use Rattle.pattern.specs.declared.Kind.the-variants.{Start, Plain, End}
-use Rattle.pattern.specs.declared.Pattern.{Pattern}
-use Rattle.pattern.specs.Sound.{noTest, noPlace, noGuard, noEdge}
+use mathlib.Core.List.{List}
+use lib.IntN.{ℤ}
 use Rattle.record.specs.Record.{Book, bookOf}
+use Rattle.record_text.specs.Text.{durationsOf, valuesOf}
+use Rattle.record_text.specs.Example as record-text
 
-abbrev pub example : Weighing → Pattern
-example w =
-    record {
-      weighing = w;
-      channels = 1;
-      clocks = 1;
-      low = 1;
-      high = 4;
-      placecount = 3;
-      places = record { kind = Start; tests = record { sign = Less; channel = 0; bound = pos 15 } ∷ replicate 3 noTest; count = 1 }
-          ∷ record { kind = Plain; tests = record { sign = More; channel = 0; bound = pos 5 } ∷ replicate 3 noTest; count = 1 }
-          ∷ record { kind = End; tests = replicate 4 noTest; count = 0 }
-          ∷ replicate 13 noPlace;
-      edgecount = 2;
-      edges = record {
-        from = 0;
-        to = 1;
-        guards = record { sign = Less; clock = 0; bound = 3 } ∷ replicate 3 noGuard;
-        count = 1;
-        resets = true ∷ replicate 3 false;
-      }
-          ∷ record {
-            from = 1;
-            to = 2;
-            guards = record { sign = AtMost; clock = 0; bound = 2 } ∷ replicate 3 noGuard;
-            count = 1;
-            resets = replicate 4 false;
-          }
-          ∷ replicate 30 noEdge;
-    }
-
--- Document 01's record ('The watch program'): (piece 2 10), (piece 2 40).
 abbrev pub durations : List ℕ
-durations = 2 ∷ 2 ∷ []
+durations = durationsOf record-text.example
 
 abbrev pub values : List ℤ
-values = pos 10 ∷ pos 40 ∷ []
+values = valuesOf record-text.example
 
--- Its ticks.
 abbrev pub book : Book
 book = bookOf 1 durations values

@@ -1,3 +1,3 @@
--- Read in this order: document 01's pattern, the starred values.
+-- Read in this order: document 01's record, the starred values.
 pub mod Example
 pub mod Starred

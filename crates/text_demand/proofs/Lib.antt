@@ -1,0 +1,2 @@
+-- Demand 2 of pattern texts.
+pub mod Demand

@@ -1,0 +1,2 @@
+-- What is claimed of reading and writing together.
+pub mod Demand
