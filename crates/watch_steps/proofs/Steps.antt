@@ -9,6 +9,7 @@ use lib.IntN.{ℤ}
 use Rattle.pattern.specs.declared.Pattern.{Pattern}
 use Rattle.pattern_text.specs.Bytes.{Bytes}
 use Rattle.text_put.specs.Put.{Put}
+use Rattle.text_put.proofs.PutLaws.{put-long, put-inside, put-text}
 use Rattle.monitor.specs.Feed.{feedLengths}
 use Rattle.best.specs.declared.Search.{Search}
 use Rattle.best.specs.Search.{chosenIn}
@@ -27,7 +28,7 @@ use Rattle.watch_steps.proofs.Moved.{last-due, last-choice}
 
 -- where there is room, all bytes stand at the front
 pub put-whole : (o o′ : Bytes) (n : ℕ) (xs : Bytes) → Put o o′ 0 n xs → length xs ≤ length o → (take n o′ ≡ xs) × (n ≤ length o′)
-put-whole o o′ n xs h l = (h .text ∙ take-all (length o) xs l, (let a = h .inside (omega arith) in let b = h .long in omega arith))
+put-whole o o′ n xs h l = (put-text h ∙ take-all (length o) xs l, omega (arith, put-inside h (omega arith), put-long h))
 
 -- a fixed line, after which other bytes are due
 pub line-stepped : (t : Bytes) (stage : Stage) (p : Pattern) (k : Cursor) (s : Search) (xs due : Bytes) (steps : ℕ) (first second : List ℤ) (o o′ : Bytes) (r : Step)
