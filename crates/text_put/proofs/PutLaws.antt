@@ -5,7 +5,7 @@ use mathlib.Core.List.{List, [], _∷_, _++_, append-assoc, append-nil}
 use native.Mathlib.Omega.{arith}
 use native.Mathlib.Numerals.{add-one, unary-clauses}
 use native.Mathlib.Nat.{add-zero, suc-add, zero-sub, suc-sub-suc}
-use lib.ListN.{length, take, set, getD, length-append, length-take, length-drop, take-append-drop, drop-of-length-le}
+use lib.ListN.{length, take, drop, set, getD, length-append, length-take, length-drop, take-append-drop, drop-of-length-le}
 use lib.Seq.{take-all, take-nil, drop-nil, set-split}
 use Rattle.pattern.proofs.ListLaws.{take-in-use, take-more}
 use Rattle.pattern_text.specs.Bytes.{Bytes}
@@ -49,6 +49,12 @@ front (x ∷ b) (suc at) xs = simp (unary-clauses, suc-add, behind) (ap (_∷_ x
 front (x ∷ b) zero [] = simp unary-clauses
 front (x ∷ b) zero (y ∷ xs) = simp (unary-clauses, first) (ap (_∷_ y) (simp unary-clauses at (front b zero xs)))
 
+rest : (b : Bytes) (at : ℕ) (xs : Bytes) → drop (at + min (length b - at) (length xs)) (putAt b at xs) ≡ drop (at + min (length b - at) (length xs)) b
+rest [] at xs = simp nothing
+rest (x ∷ b) (suc at) xs = simp (unary-clauses, suc-add, behind) (rest b at xs)
+rest (x ∷ b) zero [] = simp put-empty
+rest (x ∷ b) zero (y ∷ xs) = simp (unary-clauses, first) (simp unary-clauses at (rest b zero xs))
+
 module _ {b b′ : Bytes} {at n : ℕ} {xs : Bytes} (p : Put b b′ at n xs) where
   -- as long as before
   pub put-long : length b′ ≡ length b
@@ -61,6 +67,10 @@ module _ {b b′ : Bytes} {at n : ℕ} {xs : Bytes} (p : Put b b′ at n xs) whe
   -- up to `next`: what stood before `at`, and then xs, cut at the buffer's end
   pub put-text : take n b′ ≡ take (length b) (take at b ++ xs)
   put-text = rw (p .position, p .buffer, fits) (front b at xs)
+
+  -- from there on: what stood there
+  pub put-rest : drop n b′ ≡ drop n b
+  put-rest = rw (p .position, p .buffer, fits) (rest b at xs)
 
 -- ---- one put after the other
 
