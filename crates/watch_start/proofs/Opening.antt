@@ -1,5 +1,5 @@
 -- From both texts to the start.
-use Prim.Native.Nat.{ℕ, zero, _+_, _-_}
+use Prim.Native.Nat.{ℕ, _-_}
 use native.Mathlib.Omega.{arith}
 use mathlib.Core.Path.{_≡_, refl, sym, ap, subst, _∙_}
 use mathlib.Core.Logic.{inl}
@@ -29,7 +29,6 @@ use Rattle.record_read.specs.Check.{checkedOf}
 use Rattle.monitor.specs.Cells.{written}
 use Rattle.monitor.specs.State.{noTicks}
 use Rattle.monitor.specs.Open.{unlessRefused, openRefusal, openFirst, openSecond}
-use Rattle.best.specs.declared.Search.{Search}
 use Rattle.best.specs.Best.{bestRefusal, chosenOf}
 use Rattle.best.specs.Search.{chosenBy, Fit, SearchedTo, tableTo}
 use Rattle.best.proofs.Whole.{fit, second-open}
@@ -37,7 +36,7 @@ use Rattle.watch_text.specs.Shown.{heading, rowsFrom, bestText, shownFor}
 use Rattle.watch_steps.specs.declared.Watch.{Watch}
 use Rattle.watch_steps.specs.declared.Stage.the-variants.{Refused}
 use Rattle.watch_steps.specs.Watch.{bookOfText, tablesRefusal, unlessCause, refusalFor, answeredWith}
-use Rattle.watch_steps.specs.Steps.{rowsDue, dueAt, dueFor, Underway, StandingAt, Standing, stageBy, startOf, startFirst, startSecond, openedWatch}
+use Rattle.watch_steps.specs.Steps.{rowsDue, dueAt, dueFor, Underway, StandingAt, Standing, stageBy, startWatch, startFirst, startSecond, openedWatch}
 use Rattle.watch_steps.proofs.Pieces.{book-is, record-sound}
 
 -- a text that is not refused is that of some pieces
@@ -93,7 +92,7 @@ module _ (p : Pattern) (sound : soundOf p ≡ true) (first second : List ℤ) (l
     W = openedWatch p first second
 
     -- what the opening gives is what the start is to give
-    start-by : (o : Option Refusal) → openRefusal p (length first) (length second) ≡ o → W ≡ startOf (accepted p) t
+    start-by : (o : Option Refusal) → openRefusal p (length first) (length second) ≡ o → W ≡ startWatch (accepted p) t
     start-by none e = rw (fits, e, sym tables ∙ e)
     start-by (some r) e = rw (fits, e, sym tables ∙ e)
 
@@ -105,7 +104,7 @@ module _ (p : Pattern) (sound : soundOf p ≡ true) (first second : List ℤ) (l
     second-by none e = rw (fits, sym tables ∙ e)
     second-by (some r) e = rw (fits, e, sym tables ∙ e)
 
-    pub opened-start : W ≡ startOf (accepted p) t
+    pub opened-start : W ≡ startWatch (accepted p) t
     opened-start = start-by _ refl
 
     pub opened-first : openFirst p first second ≡ startFirst (accepted p) t first second
@@ -167,7 +166,7 @@ module _ (p : Pattern) (sound : soundOf p ≡ true) (first second : List ℤ) (l
         by none e = under e
         by (some r) e = tt
 
-    sound-stands : Standing t (startOf (accepted p) t) (startFirst (accepted p) t first second) (startSecond (accepted p) t first second)
+    sound-stands : Standing t (startWatch (accepted p) t) (startFirst (accepted p) t first second) (startSecond (accepted p) t first second)
     sound-stands =
         subst (λ (w : Watch). Standing t w (startFirst (accepted p) t first second) (startSecond (accepted p) t first second)) opened-start
         (subst (λ (f : List ℤ). Standing t W f (startSecond (accepted p) t first second)) opened-first
@@ -176,11 +175,11 @@ module _ (p : Pattern) (sound : soundOf p ≡ true) (first second : List ℤ) (l
 -- ---- the start, by the answer to the pattern's text
 
 module _ (t : Bytes) (first second : List ℤ) (longFirst : length first ≡ 2048) (longSecond : length second ≡ 2048) where
-  pub start-stands : (a : Answer) → ((p : Pattern) → a ≡ accepted p → soundOf p ≡ true) → Standing t (startOf a t) (startFirst a t first second) (startSecond a t first second)
+  pub start-stands : (a : Answer) → ((p : Pattern) → a ≡ accepted p → soundOf p ≡ true) → Standing t (startWatch a t) (startFirst a t first second) (startSecond a t first second)
   start-stands (refused r) sound = tt
   start-stands (accepted p) sound = by (recordRefusal (p .channels) t) refl
     where
-      by : (o : Option Refusal) → recordRefusal (p .channels) t ≡ o → Standing t (startOf (accepted p) t) (startFirst (accepted p) t first second) (startSecond (accepted p) t first second)
+      by : (o : Option Refusal) → recordRefusal (p .channels) t ≡ o → Standing t (startWatch (accepted p) t) (startFirst (accepted p) t first second) (startSecond (accepted p) t first second)
       by none e = sound-stands p (sound p refl) first second longFirst longSecond t e
       by (some r) e = rw e tt
 
@@ -193,6 +192,6 @@ due-by : (p : Pattern) (b : Book) (o : Option Refusal) → dueAt (stageBy o) p b
 due-by p b none = whole p b
 due-by p b (some r) = refl
 
-pub start-due : (a : Answer) (t : Bytes) → dueFor t (startOf a t) ≡ answeredWith a t
+pub start-due : (a : Answer) (t : Bytes) → dueFor t (startWatch a t) ≡ answeredWith a t
 start-due (refused r) t = refl
 start-due (accepted p) t = due-by p (bookOfText (p .channels) t) (refusalFor (accepted p) t)

@@ -18,7 +18,7 @@ use Rattle.watch_text.specs.Claims.{Shows}
 use Rattle.watch_steps.specs.declared.Watch.{Watch}
 use Rattle.watch_steps.specs.declared.Step.{Step}
 use Rattle.watch_steps.specs.Watch.{bookOfText, refusalFor, watchOf}
-use Rattle.watch_steps.specs.Steps.{isDone, dueFor, Standing, Stepped, startOf, startFirst, startSecond}
+use Rattle.watch_steps.specs.Steps.{isDone, dueFor, Standing, Stepped, startWatch, startFirst, startSecond}
 use Rattle.watch_start.specs.Buffers.{patternBuffer, recordBuffer}
 
 -- ---- the steps, by the promises of `start` and `next`
@@ -31,7 +31,7 @@ pub record Stand : Type 0 where
 
 -- What `start` promises, with what it was lent as tables.
 pub record Started (pattern text : Bytes) (first second : List ℤ) (s : Stand) : Type 0 where
-  pub watch : s .watch ≡ startOf (readOf pattern) text
+  pub watch : s .watch ≡ startWatch (readOf pattern) text
   pub firstHolds : s .first ≡ startFirst (readOf pattern) text first second
   pub secondHolds : s .second ≡ startSecond (readOf pattern) text first second
   pub standing : Standing text (s .watch) (s .first) (s .second)

@@ -19,7 +19,7 @@ ghost use Rattle.pattern.specs.Sound.{soundOf};
 ghost use Rattle.pattern_text.specs.Text.{accepted, readOf};
 ghost use Rattle.monitor.specs.State.{noTicks};
 ghost use Rattle.monitor.specs.Open.{openFirst, openSecond};
-ghost use Rattle.watch_steps.specs.Steps.{Standing, startAt, openedWatch, startOf, startFirst, startSecond};
+ghost use Rattle.watch_steps.specs.Steps.{Standing, startAt, openedWatch, startWatch, startFirst, startSecond};
 
 fn no_ticks() -> State
     ensures { λ r. ⌜ r ≡ noTicks ⌝ }
@@ -75,7 +75,7 @@ fn opened(p: Pattern, first: &mut [i64], second: &mut [i64]) -> Watch
 // The record's text judged, then the tables.
 fn judged(p: Pattern, text: &[u8], first: &mut [i64], second: &mut [i64]) -> Watch
     requires { ⌜ (soundOf p ≡ true) × (length (now first) ≡ 2048) × (length (now second) ≡ 2048) ⌝ }
-    ensures { λ r. ⌜ r ≡ startOf (accepted p) (now (text .entry)) ⌝ }
+    ensures { λ r. ⌜ r ≡ startWatch (accepted p) (now (text .entry)) ⌝ }
     ensures { λ _. ⌜ now (first .exit)
         ≡ startFirst (accepted p) (now (text .entry)) (now (first .entry)) (now (second .entry)) ⌝ }
     ensures { λ _. ⌜ now (second .exit)
@@ -93,7 +93,7 @@ fn judged(p: Pattern, text: &[u8], first: &mut [i64], second: &mut [i64]) -> Wat
 // The start: the pattern's text is judged first.
 pub fn start(pattern: &[u8], text: &[u8], first: &mut [i64], second: &mut [i64]) -> Watch
     requires { ⌜ (length (now first) ≡ 2048) × (length (now second) ≡ 2048) ⌝ }
-    ensures { λ r. ⌜ r ≡ startOf (readOf (now (pattern .entry))) (now (text .entry)) ⌝ }
+    ensures { λ r. ⌜ r ≡ startWatch (readOf (now (pattern .entry))) (now (text .entry)) ⌝ }
     ensures { λ _. ⌜ now (first .exit) ≡ startFirst (readOf (now (pattern .entry))) (now (text .entry))
         (now (first .entry)) (now (second .entry)) ⌝ }
     ensures { λ _. ⌜ now (second .exit) ≡ startSecond (readOf (now (pattern .entry))) (now (text .entry))

@@ -97,7 +97,7 @@ pub record Underway (p : Pattern) (t : Bytes) (k : Cursor) (s : Search) (first s
   pub firstHolds : first ≡ written p (tableTo p (bookOfText (p .channels) t) (s .state .ticks)) first
   pub secondHolds : second ≡ marks p second
 
--- by the stage
+-- by the stage; a refusal's line needs nothing of what is lent
 abbrev pub StandingAt : Stage → (text : Bytes) → Watch → (first second : List ℤ) → Type 0
 StandingAt (Refused r) t w first second = Unit
 StandingAt Heading t w first second = Underway (w .pattern) t (w .cursor) (w .search) first second
@@ -187,8 +187,8 @@ stageBy none = Heading
 stageBy (some r) = Refused r
 
 -- After both texts and the tables were judged: before the heading, or before the line of the first cause.
-abbrev pub startOf : Answer → (text : Bytes) → Watch
-startOf a t = startAt (stageBy (refusalFor a t)) (readingOf a .pattern) noTicks
+abbrev pub startWatch : Answer → (text : Bytes) → Watch
+startWatch a t = startAt (stageBy (refusalFor a t)) (readingOf a .pattern) noTicks
 
 -- The tables then: as the opening leaves them, and as they were at a refusal.
 abbrev pub startFirst : Answer → (text : Bytes) → (first second : List ℤ) → List ℤ

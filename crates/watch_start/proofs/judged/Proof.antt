@@ -1,8 +1,7 @@
 -- The record is refused, or the monitor opened.
-use mathlib.Core.Path.{_≡_, sym, ap, _∙_}
+use mathlib.Core.Path.{_≡_, sym, _∙_}
 use mathlib.Core.Option.{none, some}
 use borrow.Author.Needs.{needs}
-use lib.ListN.{length}
 use Rattle.record_text.specs.Text.{recordRefusal}
 use Rattle.watch_start.proofs.Opening.{checked-sound, checked-refused, opened-start, opened-first, opened-second}
 use Rattle.watch_start.proofs.judged.Statement.{statement}
@@ -39,8 +38,10 @@ returns c =
     let e : recordRefusal (a .p .channels) (a .text .now) ≡ none = checked-sound _ (sym (c .before .before .before .before .before .enum-told .given .1) ∙ c .before .before .before .before .before .before .before .check .ensures) in
     let o = c .before .before .opened .ensures in (
       o .0 ∙ opened-start (a .p) (st .pre .0) (a .first .now) (a .second .now) (st .pre .1) (st .pre .2) (a .text .now) e,
-      (o .1 .0 ∙ opened-first (a .p) (st .pre .0) (a .first .now) (a .second .now) (st .pre .1) (st .pre .2) (a .text .now) e,
-      o .1 .1 ∙ opened-second (a .p) (st .pre .0) (a .first .now) (a .second .now) (st .pre .1) (st .pre .2) (a .text .now) e),
+      (
+        o .1 .0 ∙ opened-first (a .p) (st .pre .0) (a .first .now) (a .second .now) (st .pre .1) (st .pre .2) (a .text .now) e,
+        o .1 .1 ∙ opened-second (a .p) (st .pre .0) (a .first .now) (a .second .now) (st .pre .1) (st .pre .2) (a .text .now) e,
+      ),
     )
 
 returns-2 : tie.Need-returns-2

@@ -2,13 +2,12 @@
 use mathlib.Core.Path.{_≡_, sym, ap, subst, _∙_}
 use mathlib.Core.Bool.{true}
 use borrow.Author.Needs.{needs}
-use lib.ListN.{length}
 use Rattle.pattern.specs.declared.Pattern.{Pattern}
 use Rattle.pattern.specs.Sound.{soundOf}
 use Rattle.pattern_text.specs.Text.{Answer, accepted, readOf}
 use Rattle.pattern_text.proofs.Theorems.{sound-means-read}
 use Rattle.pattern_read.specs.declared.PatternRead.{PatternRead}
-use Rattle.watch_steps.specs.Steps.{Standing, startOf, startFirst, startSecond}
+use Rattle.watch_steps.specs.Steps.{Standing, startWatch, startFirst, startSecond}
 use Rattle.watch_start.proofs.Opening.{read-accepted, read-refused, start-stands}
 use Rattle.watch_start.proofs.start.Statement.{statement}
 use Rattle.watch_start.proofs.start.Tie as tie
@@ -42,7 +41,7 @@ same-length-2 : tie.Need-same-length-2
 same-length-2 c = search needs
 
 -- where the start is to stand
-stands : (st : tie.Start) → Standing (st .args .text .now) (startOf (readOf (st .args .pattern .now)) (st .args .text .now))
+stands : (st : tie.Start) → Standing (st .args .text .now) (startWatch (readOf (st .args .pattern .now)) (st .args .text .now))
     (startFirst (readOf (st .args .pattern .now)) (st .args .text .now) (st .args .first .now) (st .args .second .now))
     (startSecond (readOf (st .args .pattern .now)) (st .args .text .now) (st .args .first .now) (st .args .second .now))
 stands st =
@@ -58,7 +57,7 @@ returns c =
     let same : accepted (c .before .before .before .before .before .before .before .before .read .result .pattern) ≡ readOf (a .pattern .now) =
     ap (λ (x : PatternRead). accepted (x .pattern)) e ∙ sym is in
     let o = c .before .before .judged .ensures in
-    let w = o .0 ∙ ap (λ (q : Answer). startOf q (a .text .now)) same in
+    let w = o .0 ∙ ap (λ (q : Answer). startWatch q (a .text .now)) same in
     let f = o .1 .0 ∙ ap (λ (q : Answer). startFirst q (a .text .now) (a .first .now) (a .second .now)) same in
     let s = o .1 .1 ∙ ap (λ (q : Answer). startSecond q (a .text .now) (a .first .now) (a .second .now)) same in
     (w, (f, (s, rw (w, f, s) (stands st))))
