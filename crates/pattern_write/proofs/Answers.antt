@@ -12,6 +12,7 @@ use Rattle.pattern.specs.Sound.{soundOf}
 use Rattle.pattern_text.specs.Bytes.{Bytes}
 use Rattle.pattern_text.specs.Text.{renderOf}
 use Rattle.text_put.specs.Put.{Put}
+use Rattle.text_put.proofs.PutLaws.{put-long, put-inside, put-text}
 use Rattle.pattern_write.specs.declared.Written.{Written}
 use Rattle.pattern_write.specs.declared.Written.the-variants.{Length, Refused}
 use Rattle.pattern_write.specs.Written.{writtenOf, outputOf, writtenAs, writtenNumbers}
@@ -24,8 +25,8 @@ pub record Whole (b : Bytes) (n : ℕ) (t : Bytes) : Type 0 where
 
 pub whole : {b b′ : Bytes} {n : ℕ} {t : Bytes} → Put b b′ 0 n t → length t ≤ length b → Whole b′ n t
 whole {b} {b′} {n} {t} p h =
-    let room : n ≤ length b′ = rw (p .long) (p .inside zero-le) in
-    let text : take n b′ ≡ t = p .text ∙ take-all (length b) t h in
+    let room : n ≤ length b′ = rw (put-long p) (put-inside p zero-le) in
+    let text : take n b′ ≡ t = put-text p ∙ take-all (length b) t h in
     record { size = sym (length-take-le n b′ room) ∙ ap length text; room = room; text = text }
 
 pub copied : {b t r : Bytes} {n : ℕ} (out : Bytes) → Whole b n t → r ≡ take (length (take n b)) (take n b) ++ drop (length (take n b)) out → r ≡ t ++ drop (length t) out

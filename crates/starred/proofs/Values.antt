@@ -29,6 +29,16 @@ accepted = sym (check-numbers 1 exampleText) ∙ ap (λ o. checkedAs (checkedOf 
 
 pub starred-hold : Starred
 unfolding durationsOf valuesOf flatMap slots testUnused guardUnused placeUnused edgeUnused testInRange testKnown guardInRange guardKnown headerInRange placeSound edgeSound soundOf boundsOn largest ceilingOf clockCells cellsFor cellsNeeded stepsFit recordSound total bookOf piecesOf sampleAt ticksOf sameSample absorb joined observed canStep goes isRun lengthOf stepsOf stayWorth stayWorths runWorth priceOf guardsHold afterResets zipWith combineFrom placeWorth distancesOf
-starred-hold =
-    (ap answerNumbers (pattern-text.reads Margin), (ap answerNumbers (pattern-text.reads Sum), (accepted, (record-text.reads,
-    (refl, (no-run Margin, (margin-end-2, (margin-end-3, (margin-end-4, (sum-end-2, (sum-end-3, (sum-end-4, (refl, (refl, tt))))))))))))))
+starred-hold = (
+  ap answerNumbers (pattern-text.reads Margin),
+  (
+    ap answerNumbers (pattern-text.reads Sum),
+    (
+      accepted,
+      (
+        record-text.reads,
+        (refl, (no-run Margin, (margin-end-2, (margin-end-3, (margin-end-4, (sum-end-2, (sum-end-3, (sum-end-4, (refl, (refl, tt)))))))))),
+      ),
+    ),
+  ),
+)

@@ -54,8 +54,7 @@ fine p room n = by (soundOf p) (ltb room (length (renderOf p))) refl refl
 read-is-written : ReadIsWritten
 read-is-written t r p reads is out a after writes room =
     let k = accepts t (readOf t) refl p (sym reads ∙ is) in
-    let h : length (renderOf p) ≤ length out = subst (λ (x : Bytes). length x ≤ length out) (k .1) room in
-    (
+    let h : length (renderOf p) ≤ length out = subst (λ (x : Bytes). length x ≤ length out) (k .1) room in (
       writes .answer ∙ numbers-are p (k .0) out h ∙ ap (λ (x : Bytes). (0, length x)) (sym (k .1)),
       writes .output ∙ output-is p (k .0) out h ∙ ap (λ (x : Bytes). x ++ drop (length x) out) (sym (k .1)),
     )

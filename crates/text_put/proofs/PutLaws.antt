@@ -1,53 +1,111 @@
 -- Bytes put one after the other.
-use Prim.Native.Nat.{ℕ, zero, suc, _+_, _/_, _%_, _≤_, _<_, min}
+use Prim.Native.Nat.{ℕ, zero, suc, _+_, _-_, _/_, _%_, _≤_, _<_, min}
 use mathlib.Core.Path.{_≡_, refl, sym, ap, _∙_}
 use mathlib.Core.List.{List, [], _∷_, _++_, append-assoc, append-nil}
 use native.Mathlib.Omega.{arith}
-use native.Mathlib.Numerals.{add-one}
-use lib.ListN.{length, take, set, getD, length-append, length-take, length-set}
-use lib.Seq.{take-all, take-suc-set, take-append-seam}
+use native.Mathlib.Numerals.{add-one, unary-clauses}
+use native.Mathlib.Nat.{add-zero, suc-add, zero-sub, suc-sub-suc}
+use lib.ListN.{length, take, drop, set, getD, length-append, length-take, length-drop, take-append-drop, drop-of-length-le}
+use lib.Seq.{take-all, take-nil, drop-nil, set-split}
 use Rattle.pattern.proofs.ListLaws.{take-in-use, take-more}
 use Rattle.pattern_text.specs.Bytes.{Bytes}
 use Rattle.pattern_text.specs.Form.{writeMany}
 use Rattle.pattern_text.specs.Numeral.{decimal}
 use Rattle.pattern_text.proofs.NumeralLaws.{decimal-small, decimal-large}
-use Rattle.text_put.specs.Put.{Put}
+use Rattle.text_put.specs.Put.{fitting, putAt, Put}
 
--- ---- what was left out before stays out
-take-again : (n : ℕ) (xs ys : Bytes) → take n (take n xs ++ ys) ≡ take n (xs ++ ys)
-take-again zero xs ys = refl
-take-again (suc n) [] ys = refl
-take-again (suc n) (x ∷ xs) ys = ap (_∷_ x) (take-again n xs ys)
+-- ---- the buffer after a put, byte by byte
 
-take-self : (at : ℕ) (b : Bytes) → take (length b) (take at b) ≡ take at b
-take-self at b = take-all (length b) (take at b) (rw length-take (omega arith))
+nothing : (at : ℕ) (xs : Bytes) → putAt [] at xs ≡ []
+unfolding putAt fitting
+nothing at xs = simp (zero-sub, take-nil, drop-nil)
+
+behind : (x : ℕ) (b : Bytes) (at : ℕ) (xs : Bytes) → putAt (x ∷ b) (suc at) xs ≡ x ∷ putAt b at xs
+unfolding putAt fitting
+behind x b at xs = rw (suc-add at (length xs), suc-sub-suc)
+
+first : (x y : ℕ) (b xs : Bytes) → putAt (x ∷ b) 0 (y ∷ xs) ≡ y ∷ putAt b 0 xs
+unfolding putAt fitting
+first x y b xs = simp unary-clauses
+
+put-empty : (b : Bytes) (at : ℕ) → putAt b at [] ≡ b
+unfolding putAt fitting
+put-empty b at = simp (take-nil, unary-clauses) (take-append-drop at b)
+
+-- how much fits
+fits : (b : Bytes) (at : ℕ) (xs : Bytes) → length (fitting b at xs) ≡ min (length b - at) (length xs)
+unfolding fitting
+fits b at xs = length-take (length b - at) xs
+
+-- ---- what stands in the buffer
+
+same-long : (b : Bytes) (at : ℕ) (xs : Bytes) → length (putAt b at xs) ≡ length b
+unfolding putAt fitting
+same-long b at xs = simp (length-append, length-take, length-drop) (omega arith)
+
+front : (b : Bytes) (at : ℕ) (xs : Bytes) → take (at + min (length b - at) (length xs)) (putAt b at xs) ≡ take (length b) (take at b ++ xs)
+front [] at xs = simp (nothing, take-nil)
+front (x ∷ b) (suc at) xs = simp (unary-clauses, suc-add, behind) (ap (_∷_ x) (front b at xs))
+front (x ∷ b) zero [] = simp unary-clauses
+front (x ∷ b) zero (y ∷ xs) = simp (unary-clauses, first) (ap (_∷_ y) (simp unary-clauses at (front b zero xs)))
+
+rest : (b : Bytes) (at : ℕ) (xs : Bytes) → drop (at + min (length b - at) (length xs)) (putAt b at xs) ≡ drop (at + min (length b - at) (length xs)) b
+rest [] at xs = simp nothing
+rest (x ∷ b) (suc at) xs = simp (unary-clauses, suc-add, behind) (rest b at xs)
+rest (x ∷ b) zero [] = simp put-empty
+rest (x ∷ b) zero (y ∷ xs) = simp (unary-clauses, first) (simp unary-clauses at (rest b zero xs))
+
+module _ {b b′ : Bytes} {at n : ℕ} {xs : Bytes} (p : Put b b′ at n xs) where
+  -- as long as before
+  pub put-long : length b′ ≡ length b
+  put-long = ap length (p .buffer) ∙ same-long b at xs
+
+  -- a position inside the buffer stays inside
+  pub put-inside : at ≤ length b → n ≤ length b
+  put-inside h = let e = p .position in omega (arith, fits b at xs)
+
+  -- up to `next`: what stood before `at`, and then xs, cut at the buffer's end
+  pub put-text : take n b′ ≡ take (length b) (take at b ++ xs)
+  put-text = rw (p .position, p .buffer, fits) (front b at xs)
+
+  -- from there on: what stood there
+  pub put-rest : drop n b′ ≡ drop n b
+  put-rest = rw (p .position, p .buffer, fits) (rest b at xs)
+
+-- ---- one put after the other
 
 pub put-none : (b : Bytes) (at : ℕ) → Put b b at at []
-put-none b at = record { long = refl; inside = λ h. h; text = rw append-nil (sym (take-self at b)) }
+put-none b at = record { buffer = sym (put-empty b at); position = rw fits (omega arith) }
 
--- one after the other
+put-twice : (b : Bytes) (at : ℕ) (xs ys : Bytes) → putAt (putAt b at xs) (at + min (length b - at) (length xs)) ys ≡ putAt b at (xs ++ ys)
+put-twice [] at xs ys = simp nothing
+put-twice (x ∷ b) (suc at) xs ys = simp (unary-clauses, suc-add, behind) (ap (_∷_ x) (put-twice b at xs ys))
+put-twice (x ∷ b) zero [] ys = simp (put-empty, unary-clauses)
+put-twice (x ∷ b) zero (y ∷ xs) ys = simp (unary-clauses, first, behind) (ap (_∷_ y) (simp unary-clauses at (put-twice b zero xs ys)))
+
 pub put-then : {b b′ b″ : Bytes} {at m n : ℕ} {xs ys : Bytes} → Put b b′ at m xs → Put b′ b″ m n ys → Put b b″ at n (xs ++ ys)
 put-then {b} {b′} {b″} {at} {m} {n} {xs} {ys} p q =
     record {
-      long = q .long ∙ p .long;
-      inside = λ h. rw (p .long) at (q .inside (rw (p .long) (p .inside h)));
-      text = q .text ∙ rw (p .long, p .text, take-again) (ap (take (length b)) (append-assoc (take at b) xs ys));
+      buffer = q .buffer ∙ rw (p .buffer, p .position, fits) (put-twice b at xs ys);
+      position =
+          let e = p .position in
+          let f = q .position in
+          omega (arith, put-long p, fits b at xs, fits b′ m ys, fits b at (xs ++ ys), length-append xs ys);
     }
 
 pub put-one : (b : Bytes) (at x : ℕ) → at < length b → Put b (set b at x) at (at + 1) (x ∷ [])
+unfolding putAt fitting
 put-one b at x h =
-    record {
-      long = length-set b at x;
-      inside = λ _. omega arith;
-      text = rw (add-one, take-suc-set b at x h) (sym (take-all (length b) (take at b ++ (x ∷ [])) (rw (length-append, length-take) (omega arith))));
-    }
+    let whole : take (length b - at) (x ∷ []) ≡ x ∷ [] = take-all (length b - at) (x ∷ []) (omega arith) in
+    record { buffer = rw (whole, add-one) (set-split b at x h); position = rw whole refl }
 
 pub put-full : (b : Bytes) (at x : ℕ) → length b ≤ at → Put b b at at (x ∷ [])
+unfolding putAt fitting
 put-full b at x h =
+    let none : length b - at ≡ 0 = omega arith in
     record {
-      long = refl;
-      inside = λ h. h;
-      text = rw (take-all at b h) (sym (take-append-seam b (x ∷ [])));
+      buffer = rw (take-all at b h, none, drop-of-length-le b {i = at + 1} (omega arith)) (sym (append-nil b));
+      position = rw (none, add-zero) refl;
     }
 
 -- ---- a list of bytes, one after the other

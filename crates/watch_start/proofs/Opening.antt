@@ -1,5 +1,5 @@
 -- From both texts to the start.
-use Prim.Native.Nat.{ℕ, zero, _+_, _-_}
+use Prim.Native.Nat.{ℕ, _-_}
 use native.Mathlib.Omega.{arith}
 use mathlib.Core.Path.{_≡_, refl, sym, ap, subst, _∙_}
 use mathlib.Core.Logic.{inl}
@@ -29,15 +29,14 @@ use Rattle.record_read.specs.Check.{checkedOf}
 use Rattle.monitor.specs.Cells.{written}
 use Rattle.monitor.specs.State.{noTicks}
 use Rattle.monitor.specs.Open.{unlessRefused, openRefusal, openFirst, openSecond}
-use Rattle.best.specs.declared.Search.{Search}
 use Rattle.best.specs.Best.{bestRefusal, chosenOf}
 use Rattle.best.specs.Search.{chosenBy, Fit, SearchedTo, tableTo}
 use Rattle.best.proofs.Whole.{fit, second-open}
 use Rattle.watch_text.specs.Shown.{heading, rowsFrom, bestText, shownFor}
 use Rattle.watch_steps.specs.declared.Watch.{Watch}
 use Rattle.watch_steps.specs.declared.Stage.the-variants.{Refused}
-use Rattle.watch_steps.specs.Watch.{bookOfText, tablesRefusal, answeredWith}
-use Rattle.watch_steps.specs.Steps.{rowsDue, dueFor, Underway, StandingAt, Standing, stageBy, openedWatch}
+use Rattle.watch_steps.specs.Watch.{bookOfText, tablesRefusal, unlessCause, refusalFor, answeredWith}
+use Rattle.watch_steps.specs.Steps.{rowsDue, dueAt, dueFor, Underway, StandingAt, Standing, stageBy, startWatch, startFirst, startSecond, openedWatch}
 use Rattle.watch_steps.proofs.Pieces.{book-is, record-sound}
 
 -- a text that is not refused is that of some pieces
@@ -92,16 +91,27 @@ module _ (p : Pattern) (sound : soundOf p ≡ true) (first second : List ℤ) (l
     abbrev W : Watch
     W = openedWatch p first second
 
-    whole : heading ++ rowsDue p B 0 ≡ shownFor p B
-    unfolding rowsDue shownFor
-    whole = let z : length B - 0 ≡ length B = omega arith in ap (λ (m : ℕ). heading ++ (rowsFrom p B 0 m ++ bestText (chosenOf p B))) z
+    -- what the opening gives is what the start is to give
+    start-by : (o : Option Refusal) → openRefusal p (length first) (length second) ≡ o → W ≡ startWatch (accepted p) t
+    start-by none e = rw (fits, e, sym tables ∙ e)
+    start-by (some r) e = rw (fits, e, sym tables ∙ e)
 
-    pub opened-due : dueFor t W ≡ answeredWith (accepted p) t
-    opened-due = by (openRefusal p (length first) (length second)) refl
-      where
-        by : (o : Option Refusal) → openRefusal p (length first) (length second) ≡ o → dueFor t W ≡ answeredWith (accepted p) t
-        by none e = rw (fits, e, sym tables ∙ e) whole
-        by (some r) e = rw (fits, e, sym tables ∙ e)
+    first-by : (o : Option Refusal) → openRefusal p (length first) (length second) ≡ o → openFirst p first second ≡ startFirst (accepted p) t first second
+    first-by none e = rw (fits, sym tables ∙ e)
+    first-by (some r) e = rw (fits, e, sym tables ∙ e)
+
+    second-by : (o : Option Refusal) → openRefusal p (length first) (length second) ≡ o → openSecond p first second ≡ startSecond (accepted p) t first second
+    second-by none e = rw (fits, sym tables ∙ e)
+    second-by (some r) e = rw (fits, e, sym tables ∙ e)
+
+    pub opened-start : W ≡ startWatch (accepted p) t
+    opened-start = start-by _ refl
+
+    pub opened-first : openFirst p first second ≡ startFirst (accepted p) t first second
+    opened-first = first-by _ refl
+
+    pub opened-second : openSecond p first second ≡ startSecond (accepted p) t first second
+    opened-second = second-by _ refl
 
     -- nothing refused: the monitor stands before the first piece
     module _ (e : openRefusal p (length first) (length second) ≡ none) where
@@ -149,9 +159,39 @@ module _ (p : Pattern) (sound : soundOf p ≡ true) (first second : List ℤ) (l
             secondHolds = second-open p (durationsOf rs) (valuesOf rs) first second none-given .1;
           }
 
-    pub opened-standing : Standing t W (openFirst p first second) (openSecond p first second)
+    opened-standing : Standing t W (openFirst p first second) (openSecond p first second)
     opened-standing = by (openRefusal p (length first) (length second)) refl
       where
         by : (o : Option Refusal) → openRefusal p (length first) (length second) ≡ o → StandingAt (stageBy o) t W (openFirst p first second) (openSecond p first second)
         by none e = under e
         by (some r) e = tt
+
+    sound-stands : Standing t (startWatch (accepted p) t) (startFirst (accepted p) t first second) (startSecond (accepted p) t first second)
+    sound-stands =
+        subst (λ (w : Watch). Standing t w (startFirst (accepted p) t first second) (startSecond (accepted p) t first second)) opened-start
+        (subst (λ (f : List ℤ). Standing t W f (startSecond (accepted p) t first second)) opened-first
+        (subst (λ (s : List ℤ). Standing t W (openFirst p first second) s) opened-second opened-standing))
+
+-- ---- the start, by the answer to the pattern's text
+
+module _ (t : Bytes) (first second : List ℤ) (longFirst : length first ≡ 2048) (longSecond : length second ≡ 2048) where
+  pub start-stands : (a : Answer) → ((p : Pattern) → a ≡ accepted p → soundOf p ≡ true) → Standing t (startWatch a t) (startFirst a t first second) (startSecond a t first second)
+  start-stands (refused r) sound = tt
+  start-stands (accepted p) sound = by (recordRefusal (p .channels) t) refl
+    where
+      by : (o : Option Refusal) → recordRefusal (p .channels) t ≡ o → Standing t (startWatch (accepted p) t) (startFirst (accepted p) t first second) (startSecond (accepted p) t first second)
+      by none e = sound-stands p (sound p refl) first second longFirst longSecond t e
+      by (some r) e = rw e tt
+
+-- what is due at the start
+whole : (p : Pattern) (b : Book) → heading ++ rowsDue p b 0 ≡ shownFor p b
+unfolding rowsDue shownFor
+whole p b = let z : length b - 0 ≡ length b = omega arith in ap (λ (m : ℕ). heading ++ (rowsFrom p b 0 m ++ bestText (chosenOf p b))) z
+
+due-by : (p : Pattern) (b : Book) (o : Option Refusal) → dueAt (stageBy o) p b 0 ≡ unlessCause o (shownFor p b)
+due-by p b none = whole p b
+due-by p b (some r) = refl
+
+pub start-due : (a : Answer) (t : Bytes) → dueFor t (startWatch a t) ≡ answeredWith a t
+start-due (refused r) t = refl
+start-due (accepted p) t = due-by p (bookOfText (p .channels) t) (refusalFor (accepted p) t)

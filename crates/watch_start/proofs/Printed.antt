@@ -1,5 +1,5 @@
 -- All steps together: step by step, the bytes printed and those still due are what is to be printed.
-use Prim.Native.Nat.{ℕ, _+_, _-_, _≤_, _<_}
+use Prim.Native.Nat.{ℕ, _+_, _≤_, _<_}
 use native.Mathlib.Omega.{arith}
 use mathlib.Core.Path.{_≡_, refl, sym, ap, subst, _∙_}
 use mathlib.Core.List.{List, [], _∷_, _++_, append-assoc, append-nil}
@@ -8,6 +8,7 @@ use mathlib.Core.Bool.{Bool, true, false, cond}
 use borrow.Author.Tests.{ltb-true, ltb-false}
 use lib.Dec.{ltb}
 use lib.ListN.{length, take}
+use lib.IntN.{ℤ}
 use Rattle.pattern.specs.declared.Pattern.{Pattern}
 use Rattle.pattern.specs.declared.Refusal.{Refusal}
 use Rattle.pattern.specs.declared.Refusal.the-variants.{TableTooShort}
@@ -15,17 +16,19 @@ use Rattle.pattern.specs.Sound.{soundOf}
 use Rattle.pattern.specs.Cells.{cellsNeeded}
 use Rattle.pattern_text.specs.Bytes.{Bytes, bytes}
 use Rattle.pattern_text.specs.Numeral.{decimal, decimalF}
-use Rattle.pattern_text.specs.Text.{Answer, refused}
+use Rattle.pattern_text.specs.Text.{Answer, readOf}
 use Rattle.pattern_text.proofs.Theorems.{sound-means-read}
 use Rattle.record.specs.Record.{Book}
 use Rattle.watch_text.specs.Shown.{feed, refusedText, shownFor}
 use Rattle.watch_text.specs.Claims.{Shows}
 use Rattle.watch_text.proofs.Right.{shown-right}
+use Rattle.watch_steps.specs.declared.Watch.{Watch}
 use Rattle.watch_steps.specs.declared.Stage.{Stage}
 use Rattle.watch_steps.specs.declared.Stage.the-variants.{Refused, Heading, Rows, Done}
 use Rattle.watch_steps.specs.Watch.{bookOfText, tablesRefusal, orCause, unlessCause, answeredWith, watchOf}
 use Rattle.watch_steps.specs.Steps.{isDone, dueAt, dueFor, stepsAt, stepsLeft, Standing}
-use Rattle.watch_start.specs.Claims.{Stand, Made, stands, Follow, leadTo, printed, StepsPrint, PrintedSoFar, StepsEnd, LinesRight, RefusalsAlone}
+use Rattle.watch_start.specs.Claims.{Stand, Started, Made, stands, Follow, leadTo, printed, StepsPrint, PrintedSoFar, StepsEnd, StartRefusedAltersNothing, LinesRight, RefusalsAlone}
+use Rattle.watch_start.proofs.Opening.{start-due}
 
 -- ---- the steps
 
@@ -62,23 +65,40 @@ module _ (t : Bytes) where
   go-on [] s k h = k
   go-on (m ∷ ms) s k h = go-on ms (stands m) (h .1 .standing) (h .2)
 
+due : {pattern text : Bytes} {first second : List ℤ} {s : Stand} → Started pattern text first second s → dueFor text (s .watch) ≡ watchOf pattern text
+due {pattern} {text} k = ap (dueFor text) (k .watch) ∙ start-due (readOf pattern) text
+
 pub printed-so-far : PrintedSoFar
-printed-so-far pattern text s k ms h = sym (k .due) ∙ so-far text ms s h
+printed-so-far pattern text first second s k ms h = sym (due k) ∙ so-far text ms s h
 
 pub steps-print : StepsPrint
-steps-print pattern text s k ms h done =
+steps-print pattern text first second s k ms h done =
     let w = leadTo s ms .watch in
-    sym (printed-so-far pattern text s k ms h
+    sym (printed-so-far pattern text first second s k ms h
     ∙ ap (λ (x : Bytes). printed ms ++ x) (none-due (w .stage) (w .pattern) (bookOfText (w .pattern .channels) text) (w .search .state .ticks) done)
     ∙ append-nil (printed ms))
 
 pub steps-end : StepsEnd
-steps-end pattern text s k ms h = (
+steps-end pattern text first second s k ms h = (
   go-on text ms s (k .standing) h,
   (let a = few text ms s h in
       let b = few-steps (s .watch .stage) (bookOfText (s .watch .pattern .channels) text) (s .watch .search .state .ticks) in
       omega arith),
 )
+
+-- ---- a refusal
+
+-- there is one step, and it leaves the tables alone
+refused-steps : (t : Bytes) (r : Refusal) (ms : List Made) (s : Stand) → s .watch .stage ≡ Refused r → Follow t s ms → (leadTo s ms .first ≡ s .first) × (leadTo s ms .second ≡ s .second)
+unfolding Follow leadTo
+refused-steps t r [] s e h = (refl, refl)
+refused-steps t r (m ∷ []) s e h = (rw e at (h .1 .firstHolds), rw e at (h .1 .secondHolds))
+refused-steps t r (m ∷ n ∷ ms) s e h = let a = rw e at (few t (m ∷ n ∷ ms) s h) in absurd (omega arith)
+
+pub start-refused-alters-nothing : StartRefusedAltersNothing
+start-refused-alters-nothing pattern text first second s k r cause ms h =
+    let o = refused-steps text r ms s (ap (λ (w : Watch). w .stage) (k .watch) ∙ rw cause) h in
+    (o .0 ∙ k .firstHolds ∙ rw cause, o .1 ∙ k .secondHolds ∙ rw cause)
 
 -- ---- what is printed
 

@@ -17,8 +17,8 @@ use Rattle.watch_text.specs.Shown.{feed, refusedText}
 use Rattle.watch_text.specs.Claims.{Shows}
 use Rattle.watch_steps.specs.declared.Watch.{Watch}
 use Rattle.watch_steps.specs.declared.Step.{Step}
-use Rattle.watch_steps.specs.Watch.{bookOfText, watchOf}
-use Rattle.watch_steps.specs.Steps.{isDone, dueFor, stepsLeft, Standing, Stepped}
+use Rattle.watch_steps.specs.Watch.{bookOfText, refusalFor, watchOf}
+use Rattle.watch_steps.specs.Steps.{isDone, dueFor, Standing, Stepped, startWatch, startFirst, startSecond}
 use Rattle.watch_start.specs.Buffers.{patternBuffer, recordBuffer}
 
 -- ---- the steps, by the promises of `start` and `next`
@@ -29,13 +29,16 @@ pub record Stand : Type 0 where
   pub first : List ℤ
   pub second : List ℤ
 
--- What `start` promises.
-pub record Started (pattern text : Bytes) (s : Stand) : Type 0 where
-  pub due : dueFor text (s .watch) ≡ watchOf pattern text
+-- What `start` promises, with what it was lent as tables.
+pub record Started (pattern text : Bytes) (first second : List ℤ) (s : Stand) : Type 0 where
+  pub watch : s .watch ≡ startWatch (readOf pattern) text
+  pub firstHolds : s .first ≡ startFirst (readOf pattern) text first second
+  pub secondHolds : s .second ≡ startSecond (readOf pattern) text first second
   pub standing : Standing text (s .watch) (s .first) (s .second)
 
--- A step: what `next` handed back, and what it left in the tables and in the buffer.
+-- A step: the buffer as it was lent, what `next` handed back, and what it left in the tables and in the buffer.
 pub record Made : Type 0 where
+  pub lent : Bytes
   pub step : Step
   pub first : List ℤ
   pub second : List ℤ
@@ -49,7 +52,8 @@ stands m = record { watch = m .step .watch; first = m .first; second = m .second
 unfoldable pub Follow : (text : Bytes) → Stand → List Made → Type 0
 Follow t s [] = Unit
 Follow t s (m ∷ ms) =
-    (isDone (s .watch .stage) ≡ false) × Stepped t (dueFor t (s .watch)) (stepsLeft t (s .watch)) (m .first) (m .second) (m .out) (m .step)
+    (isDone (s .watch .stage) ≡ false)
+    × Stepped t (s .watch) (s .first) (s .second) (m .lent) (m .first) (m .second) (m .out) (m .step)
     × Follow t (stands m) ms
 
 -- Where they lead.
@@ -67,22 +71,29 @@ printed (m ∷ ms) = take (m .step .length) (m .out) ++ printed ms
 -- Steps from the start until nothing is to come print what document 01 says for the two texts, and nothing else.
 abbrev pub StepsPrint : Type 0
 StepsPrint =
-    (pattern text : Bytes) (s : Stand) → Started pattern text s → (ms : List Made) → Follow text s ms
+    (pattern text : Bytes) (first second : List ℤ) (s : Stand) → Started pattern text first second s → (ms : List Made) → Follow text s ms
     → isDone (leadTo s ms .watch .stage) ≡ true → printed ms ≡ watchOf pattern text
 
 -- Wherever the program is stopped before, it has printed the front of that.
 abbrev pub PrintedSoFar : Type 0
 PrintedSoFar =
-    (pattern text : Bytes) (s : Stand) → Started pattern text s → (ms : List Made) → Follow text s ms
+    (pattern text : Bytes) (first second : List ℤ) (s : Stand) → Started pattern text first second s → (ms : List Made) → Follow text s ms
     → watchOf pattern text ≡ printed ms ++ dueFor text (leadTo s ms .watch)
 
 -- The program ends: after any steps from the start the next one may be made, or nothing is to come; and there are never more
 -- steps than the record has ticks, and two.
 abbrev pub StepsEnd : Type 0
 StepsEnd =
-    (pattern text : Bytes) (s : Stand) → Started pattern text s → (ms : List Made) → Follow text s ms
+    (pattern text : Bytes) (first second : List ℤ) (s : Stand) → Started pattern text first second s → (ms : List Made) → Follow text s ms
     → Standing text (leadTo s ms .watch) (leadTo s ms .first) (leadTo s ms .second)
     × (length ms ≤ 2 + length (bookOfText (s .watch .pattern .channels) text))
+
+-- A start that is refused, for whichever cause, and the steps after it leave the tables as they were before the start.
+abbrev pub StartRefusedAltersNothing : Type 0
+StartRefusedAltersNothing =
+    (pattern text : Bytes) (first second : List ℤ) (s : Stand) → Started pattern text first second s
+    → (r : Refusal) → refusalFor (readOf pattern) text ≡ some r → (ms : List Made) → Follow text s ms
+    → (leadTo s ms .first ≡ first) × (leadTo s ms .second ≡ second)
 
 -- A pattern and a record that are accepted, and cells that fit the tables: the lines are right, each by the runs of the
 -- record's book (`watch_text/specs/Claims`).

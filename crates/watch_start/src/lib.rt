@@ -16,11 +16,10 @@ ghost use mathlib.Core.Path.{_≡_};
 ghost use mathlib.Core.Bool.{true};
 ghost use lib.ListN.{length};
 ghost use Rattle.pattern.specs.Sound.{soundOf};
-ghost use Rattle.pattern_text.specs.Text.{accepted};
+ghost use Rattle.pattern_text.specs.Text.{accepted, readOf};
 ghost use Rattle.monitor.specs.State.{noTicks};
 ghost use Rattle.monitor.specs.Open.{openFirst, openSecond};
-ghost use Rattle.watch_steps.specs.Watch.{answeredWith, watchOf};
-ghost use Rattle.watch_steps.specs.Steps.{dueFor, Standing, startAt, openedWatch};
+ghost use Rattle.watch_steps.specs.Steps.{Standing, startAt, openedWatch, startWatch, startFirst, startSecond};
 
 fn no_ticks() -> State
     ensures { λ r. ⌜ r ≡ noTicks ⌝ }
@@ -76,8 +75,11 @@ fn opened(p: Pattern, first: &mut [i64], second: &mut [i64]) -> Watch
 // The record's text judged, then the tables.
 fn judged(p: Pattern, text: &[u8], first: &mut [i64], second: &mut [i64]) -> Watch
     requires { ⌜ (soundOf p ≡ true) × (length (now first) ≡ 2048) × (length (now second) ≡ 2048) ⌝ }
-    ensures { λ r. ⌜ dueFor (now (text .entry)) r ≡ answeredWith (accepted p) (now (text .entry)) ⌝ }
-    ensures { λ r. ⌜ Standing (now (text .entry)) r (now (first .exit)) (now (second .exit)) ⌝ }
+    ensures { λ r. ⌜ r ≡ startWatch (accepted p) (now (text .entry)) ⌝ }
+    ensures { λ _. ⌜ now (first .exit)
+        ≡ startFirst (accepted p) (now (text .entry)) (now (first .entry)) (now (second .entry)) ⌝ }
+    ensures { λ _. ⌜ now (second .exit)
+        ≡ startSecond (accepted p) (now (text .entry)) (now (first .entry)) (now (second .entry)) ⌝ }
 {
     match check(text, p.channels) {
         Checked::Sound => opened(p, first, second),
@@ -91,7 +93,11 @@ fn judged(p: Pattern, text: &[u8], first: &mut [i64], second: &mut [i64]) -> Wat
 // The start: the pattern's text is judged first.
 pub fn start(pattern: &[u8], text: &[u8], first: &mut [i64], second: &mut [i64]) -> Watch
     requires { ⌜ (length (now first) ≡ 2048) × (length (now second) ≡ 2048) ⌝ }
-    ensures { λ r. ⌜ dueFor (now (text .entry)) r ≡ watchOf (now (pattern .entry)) (now (text .entry)) ⌝ }
+    ensures { λ r. ⌜ r ≡ startWatch (readOf (now (pattern .entry))) (now (text .entry)) ⌝ }
+    ensures { λ _. ⌜ now (first .exit) ≡ startFirst (readOf (now (pattern .entry))) (now (text .entry))
+        (now (first .entry)) (now (second .entry)) ⌝ }
+    ensures { λ _. ⌜ now (second .exit) ≡ startSecond (readOf (now (pattern .entry))) (now (text .entry))
+        (now (first .entry)) (now (second .entry)) ⌝ }
     ensures { λ r. ⌜ Standing (now (text .entry)) r (now (first .exit)) (now (second .exit)) ⌝ }
 {
     let given = read(pattern);

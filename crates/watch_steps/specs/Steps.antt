@@ -6,14 +6,15 @@ use mathlib.Core.List.{List, [], _∷_, _++_}
 use mathlib.Core.Option.{Option, none, some}
 use mathlib.Core.Bool.{Bool, true, false, cond, _&&_}
 use lib.Dec.{eqb, ltb}
-use lib.ListN.{length, take, replicate}
+use lib.ListN.{length, take, drop, replicate}
 use lib.IntN.{ℤ, pos}
 use Rattle.pattern.specs.declared.Pattern.{Pattern}
 use Rattle.pattern.specs.declared.Refusal.{Refusal}
 use Rattle.pattern.specs.Sound.{soundOf}
 use Rattle.pattern.specs.Cells.{cellsNeeded}
 use Rattle.pattern_text.specs.Bytes.{Bytes}
-use Rattle.pattern_text.specs.Text.{pad}
+use Rattle.pattern_text.specs.Text.{Answer, pad}
+use Rattle.pattern_read.specs.Reading.{readingOf}
 use Rattle.record.specs.Record.{Book, total}
 use Rattle.record_text.specs.Piece.{RawPiece, valuesIn}
 use Rattle.record_text.specs.Text.{renderRecord, readRecord, durationsOf, recordRefusal}
@@ -22,7 +23,7 @@ use Rattle.record_read.specs.Line.{pieceAt}
 use Rattle.monitor.specs.Cells.{written}
 use Rattle.monitor.specs.declared.State.{State}
 use Rattle.monitor.specs.State.{noTicks}
-use Rattle.monitor.specs.Open.{marks, openRefusal, openState}
+use Rattle.monitor.specs.Open.{unlessRefused, marks, openRefusal, openState, openFirst, openSecond}
 use Rattle.monitor.specs.Feed.{Call, feedState, feedFirst, feedSecond, feedScores, feedLengths}
 use Rattle.best.specs.declared.Search.{Search}
 use Rattle.best.specs.Best.{chosenOf}
@@ -34,7 +35,7 @@ use Rattle.watch_steps.specs.declared.Stage.the-variants.{Refused, Headi
 use Rattle.watch_steps.specs.declared.Cursor.{Cursor}
 use Rattle.watch_steps.specs.declared.Watch.{Watch}
 use Rattle.watch_steps.specs.declared.Step.{Step}
-use Rattle.watch_steps.specs.Watch.{bookOfText}
+use Rattle.watch_steps.specs.Watch.{bookOfText, refusalFor}
 
 abbrev pub isDone : Stage → Bool
 isDone (Refused r) = false
@@ -96,7 +97,7 @@ pub record Underway (p : Pattern) (t : Bytes) (k : Cursor) (s : Search) (first s
   pub firstHolds : first ≡ written p (tableTo p (bookOfText (p .channels) t) (s .state .ticks)) first
   pub secondHolds : second ≡ marks p second
 
--- by the stage
+-- by the stage; a refusal's line needs nothing of what is lent
 abbrev pub StandingAt : Stage → (text : Bytes) → Watch → (first second : List ℤ) → Type 0
 StandingAt (Refused r) t w first second = Unit
 StandingAt Heading t w first second = Underway (w .pattern) t (w .cursor) (w .search) first second
@@ -118,21 +119,47 @@ stepsLeft t w = stepsAt (w .stage) (bookOfText (w .pattern .channels) t) (w .sea
 
 -- ---- a step
 
--- The step's bytes are the first of those that were due, and it brings the program nearer to its end.
-pub record Stepped (t : Bytes) (due : Bytes) (steps : ℕ) (first second : List ℤ) (out : Bytes) (r : Step) : Type 0 where
-  pub standing : Standing t (r .watch) first second
-  pub shown : due ≡ take (r .length) out ++ dueFor t (r .watch)
-  pub within : r .length ≤ length out
-  pub fewer : stepsLeft t (r .watch) < steps
+abbrev pub watchAt : Stage → Pattern → Cursor → Search → Watch
+watchAt stage p k s = record { stage = stage; pattern = p; cursor = k; search = s }
 
--- The chunk that is fed next.
+-- A chunk of the present piece: up to 64 of the ticks that are left.
 abbrev pub chunk : Pattern → Cursor → Call
 chunk p k = chunkOf (min (k .left) 64) (take (p .channels) (k .values))
+
+-- The chunk that a step feeds: at the rows, as long as ticks are left; at a refusal, the heading and the last line none.
+abbrev pub chunkAt : Stage → Pattern → Cursor → Option Call
+chunkAt (Refused r) p k = none
+chunkAt Heading p k = none
+chunkAt Rows p k = cond (eqb (k .left) 0) none (some (chunk p k))
+chunkAt Done p k = none
+
+abbrev pub nextChunk : (text : Bytes) → Watch → Option Call
+nextChunk t w = chunkAt (w .stage) (w .pattern) (movedOn t (w .cursor))
+
+-- The tables after a step: as feeding its chunk leaves them, and as they were if it feeds none.
+abbrev pub firstPast : Option Call → Pattern → State → (first second : List ℤ) → List ℤ
+firstPast none p s t u = t
+firstPast (some c) p s t u = feedFirst p s t u c
+
+abbrev pub secondPast : Option Call → Pattern → State → (first second : List ℤ) → List ℤ
+secondPast none p s t u = u
+secondPast (some c) p s t u = feedSecond p s t u c
+
+-- The step's bytes are the first of those that were due, and it brings the program nearer to its end. The tables hold what the
+-- step's chunk leaves in them, and the buffer past the step's bytes what it held.
+pub record Stepped (t : Bytes) (w : Watch) (first second : List ℤ) (out : Bytes) (first′ second′ : List ℤ) (out′ : Bytes) (r : Step) : Type 0 where
+  pub standing : Standing t (r .watch) first′ second′
+  pub shown : dueFor t w ≡ take (r .length) out′ ++ dueFor t (r .watch)
+  pub within : r .length ≤ length out′
+  pub fewer : stepsLeft t (r .watch) < stepsLeft t w
+  pub firstHolds : first′ ≡ firstPast (nextChunk t w) (w .pattern) (w .search .state) first second
+  pub secondHolds : second′ ≡ secondPast (nextChunk t w) (w .pattern) (w .search .state) first second
+  pub past : drop (r .length) out′ ≡ drop (r .length) out
 
 -- What a step through a chunk does, in the words of feeding.
 pub record ChunkStepped (p : Pattern) (k : Cursor) (s : Search) (t u : List ℤ) (o : Bytes) (t′ u′ : List ℤ) (o′ : Bytes) (r : Step) : Type 0 where
   pub watch : r .watch
-      ≡ record { stage = Rows; pattern = p; cursor = record { at = k .at; left = k .left - min (k .left) 64; values = k .values }; search = r .watch .search }
+      ≡ watchAt Rows p (record { at = k .at; left = k .left - min (k .left) 64; values = k .values }) (r .watch .search)
   pub state : r .watch .search .state ≡ feedState p (s .state) t u (chunk p k)
   pub choice : chosenIn (r .watch .search .choice)
       ≡ chosenPast p (chosenIn (s .choice)) (s .state .ticks) (feedScores p (s .state) t u (chunk p k)) (feedLengths p (s .state) t u (chunk p k)) (min (k .left) 64)
@@ -143,7 +170,7 @@ pub record ChunkStepped (p : Pattern) (k : Cursor) (s : Search) (t u : List ℤ)
 
 -- What a step through some fixed lines does.
 pub record LineStepped (stage : Stage) (p : Pattern) (k : Cursor) (s : Search) (xs : Bytes) (o o′ : Bytes) (r : Step) : Type 0 where
-  pub watch : r .watch ≡ record { stage = stage; pattern = p; cursor = k; search = s }
+  pub watch : r .watch ≡ watchAt stage p k s
   pub put : Put o o′ 0 (r .length) xs
   pub few : length xs ≤ 128
 
@@ -152,16 +179,23 @@ pub record LineStepped (stage : Stage) (p : Pattern) (k : Cursor) (s : Search) (
 -- Nothing read, nothing chosen.
 abbrev pub startAt : Stage → Pattern → State → Watch
 startAt stage p q =
-    record {
-      stage = stage;
-      pattern = p;
-      cursor = record { at = 0; left = 0; values = replicate 8 (pos 0) };
-      search = record { state = q; choice = record { end = 0; length = 0; score = pos 0 } };
-    }
+    watchAt stage p (record { at = 0; left = 0; values = replicate 8 (pos 0) })
+    (record { state = q; choice = record { end = 0; length = 0; score = pos 0 } })
 
 abbrev pub stageBy : Option Refusal → Stage
 stageBy none = Heading
 stageBy (some r) = Refused r
+
+-- After both texts and the tables were judged: before the heading, or before the line of the first cause.
+abbrev pub startWatch : Answer → (text : Bytes) → Watch
+startWatch a t = startAt (stageBy (refusalFor a t)) (readingOf a .pattern) noTicks
+
+-- The tables then: as the opening leaves them, and as they were at a refusal.
+abbrev pub startFirst : Answer → (text : Bytes) → (first second : List ℤ) → List ℤ
+startFirst a t first second = unlessRefused (refusalFor a t) (openFirst (readingOf a .pattern) first second) first
+
+abbrev pub startSecond : Answer → (text : Bytes) → (first second : List ℤ) → List ℤ
+startSecond a t first second = unlessRefused (refusalFor a t) (openSecond (readingOf a .pattern) first second) second
 
 -- after the opening
 abbrev pub openedWatch : Pattern → (first second : List ℤ) → Watch

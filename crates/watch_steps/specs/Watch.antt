@@ -37,11 +37,14 @@ abbrev pub unlessCause : Option Refusal → Bytes → Bytes
 unlessCause none shown = shown
 unlessCause (some r) shown = refusedText r
 
--- "the pattern is judged first", then the record, then the tables.
+-- The first cause: "the pattern is judged first", then the record, then the tables.
+abbrev pub refusalFor : Answer → (text : Bytes) → Option Refusal
+refusalFor (refused r) t = some r
+refusalFor (accepted p) t = orCause (recordRefusal (p .channels) t) (tablesRefusal p)
+
 abbrev pub answeredWith : Answer → (text : Bytes) → Bytes
 answeredWith (refused r) t = refusedText r
-answeredWith (accepted p) t =
-    unlessCause (orCause (recordRefusal (p .channels) t) (tablesRefusal p)) (shownFor p (bookOfText (p .channels) t))
+answeredWith (accepted p) t = unlessCause (refusalFor (accepted p) t) (shownFor p (bookOfText (p .channels) t))
 
 abbrev pub watchOf : (pattern text : Bytes) → Bytes
 watchOf pt t = answeredWith (readOf pt) t

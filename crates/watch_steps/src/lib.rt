@@ -15,14 +15,10 @@ ghost use lib.ListN.{length, getD};
 ghost use Rattle.monitor.specs.Feed.{feedLengths};
 ghost use Rattle.best.specs.Search.{chosenIn};
 ghost use Rattle.watch_text.specs.Shown.{refusedText, heading, bestText};
-ghost use Rattle.watch_steps.specs.Watch.{bookOfText};
 ghost use Rattle.watch_steps.specs.Steps.{
   isDone,
-  dueAt,
-  dueFor,
-  stepsAt,
-  stepsLeft,
   movedOn,
+  watchAt,
   chunk,
   Underway,
   Standing,
@@ -180,9 +176,8 @@ fn step_rows(
     out: &mut [u8],
 ) -> Step
     requires { ⌜ (Underway p (now text) k s (now first) (now second)) × (4096 ≤ length (now out)) ⌝ }
-    ensures { λ r. ⌜ Stepped (now (text .entry))
-        (dueAt Rows p (bookOfText (p .channels) (now (text .entry))) (s .state .ticks))
-        (stepsAt Rows (bookOfText (p .channels) (now (text .entry))) (s .state .ticks))
+    ensures { λ r. ⌜ Stepped (now (text .entry)) (watchAt Rows p k s)
+        (now (first .entry)) (now (second .entry)) (now (out .entry))
         (now (first .exit)) (now (second .exit)) (now (out .exit)) r ⌝ }
 {
     let on = move_on(text, k);
@@ -210,7 +205,7 @@ pub fn is_done(w: Watch) -> bool
 pub fn next(text: &[u8], w: Watch, first: &mut [i64], second: &mut [i64], out: &mut [u8]) -> Step
     requires { ⌜ (Standing (now text) w (now first) (now second)) × (4096 ≤ length (now out))
         × (isDone (w .stage) ≡ false) ⌝ }
-    ensures { λ r. ⌜ Stepped (now (text .entry)) (dueFor (now (text .entry)) w) (stepsLeft (now (text .entry)) w)
+    ensures { λ r. ⌜ Stepped (now (text .entry)) w (now (first .entry)) (now (second .entry)) (now (out .entry))
         (now (first .exit)) (now (second .exit)) (now (out .exit)) r ⌝ }
 {
     let stage = w.stage;

@@ -2,7 +2,7 @@
 use Rattle.pattern_text.specs.Form.{_▸_, _⨾_, _◂_, mapped, oneOf, number}
 use Rattle.pattern_text.specs.Line.{weighing, headerLine, renderLine}
 use Rattle.pattern_text.specs.Text.{docOf, ended}
-use Rattle.text_put.proofs.PutLaws.{put-then}
+use Rattle.text_put.proofs.PutLaws.{put-long, put-then}
 use borrow.Author.Needs.{needs}
 use Rattle.line_write.proofs.put_header.Statement.{statement}
 use Rattle.line_write.proofs.put_header.Tie as tie
@@ -60,7 +60,7 @@ returns c =
     (feed .put-byte .ensures)
 
 same-length : tie.Need-same-length
-same-length c = returns c .long
+same-length c = put-long (returns c)
 
 pub put-header-spec : {M : Type 1} → statement M
 put-header-spec =

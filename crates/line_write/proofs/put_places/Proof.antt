@@ -6,7 +6,7 @@ use lib.ListN.{length, take, length-map}
 use Rattle.pattern_text.specs.Form.{writeMany}
 use Rattle.text_put.specs.Put.{Put}
 use Rattle.line_write.specs.Lines.{placeText}
-use Rattle.text_put.proofs.PutLaws.{many-none, many-next, many-all}
+use Rattle.text_put.proofs.PutLaws.{put-long, many-none, many-next, many-all}
 use Rattle.line_write.proofs.put_places.Statement.{statement}
 use Rattle.line_write.proofs.put_places.Tie as tie
 
@@ -49,7 +49,7 @@ loop-again c =
     (omega arith, s .loop .inv .1, many-next placeText (s .before .before .before .args .t3 .places) (s .loop .i) _ (omega arith) (s .loop .inv .2) (p .put-place .ensures))
 
 same-length : tie.Need-same-length Inv-loop μ-loop
-same-length c = c .before .loop .inv .2 .long
+same-length c = put-long (c .before .loop .inv .2)
 
 returns : tie.Need-returns Inv-loop μ-loop
 returns c =

@@ -4,6 +4,7 @@ use mathlib.Core.Path.{_≡_}
 use mathlib.Core.Bool.{false}
 use native.Mathlib.Omega.{arith}
 use lib.ListN.{length, length-map}
+use Rattle.text_put.proofs.PutLaws.{put-long}
 use Rattle.line_write.proofs.ResetLaws.{Passed, passed-none, passed-next, passed-all}
 use Rattle.line_write.proofs.put_resets.Statement.{statement}
 use Rattle.line_write.proofs.put_resets.Tie as tie
@@ -54,7 +55,7 @@ returns c =
     passed-all (s .loop .k) (s .before .before .args .t3 .resets) (omega arith) (s .loop .inv .1) (p .put-close .ensures)
 
 same-length : tie.Need-same-length Inv-loop μ-loop
-same-length c = returns c .long
+same-length c = put-long (returns c)
 
 pub put-resets-spec : {M : Type 1} → statement M
 put-resets-spec =

@@ -3,7 +3,7 @@ use Prim.Native.Nat.{_≤_, _-_}
 use native.Mathlib.Omega.{arith}
 use lib.ListN.{length, take}
 use Rattle.text_put.specs.Put.{Put}
-use Rattle.text_put.proofs.PutLaws.{put-none, put-next, put-all}
+use Rattle.text_put.proofs.PutLaws.{put-long, put-none, put-next, put-all}
 use Rattle.text_put.proofs.put_word.Statement.{statement}
 use Rattle.text_put.proofs.put_word.Tie as tie
 
@@ -34,7 +34,7 @@ loop-again c =
     (omega arith, put-next _ (l .loop .i) (omega arith) (l .loop .inv .1) (c .before .before .put-byte .ensures))
 
 same-length : tie.Need-same-length Inv-loop μ-loop
-same-length c = c .before .loop .inv .1 .long
+same-length c = put-long (c .before .loop .inv .1)
 
 returns : tie.Need-returns Inv-loop μ-loop
 returns c = put-all _ (c .before .loop .i) (omega arith) (c .before .loop .inv .1)

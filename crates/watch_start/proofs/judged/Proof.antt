@@ -1,11 +1,9 @@
 -- The record is refused, or the monitor opened.
-use mathlib.Core.Path.{_≡_, sym, ap, _∙_}
+use mathlib.Core.Path.{_≡_, sym, _∙_}
 use mathlib.Core.Option.{none, some}
 use borrow.Author.Needs.{needs}
-use lib.ListN.{length}
 use Rattle.record_text.specs.Text.{recordRefusal}
-use Rattle.watch_steps.specs.Steps.{dueFor}
-use Rattle.watch_start.proofs.Opening.{checked-sound, checked-refused, opened-due, opened-standing}
+use Rattle.watch_start.proofs.Opening.{checked-sound, checked-refused, opened-start, opened-first, opened-second}
 use Rattle.watch_start.proofs.judged.Statement.{statement}
 use Rattle.watch_start.proofs.judged.Tie as tie
 
@@ -39,15 +37,18 @@ returns c =
     let a = st .args in
     let e : recordRefusal (a .p .channels) (a .text .now) ≡ none = checked-sound _ (sym (c .before .before .before .before .before .enum-told .given .1) ∙ c .before .before .before .before .before .before .before .check .ensures .0) in
     let o = c .before .before .opened .ensures in (
-      ap (dueFor (a .text .now)) (o .0) ∙ opened-due (a .p) (st .pre .0) (a .first .now) (a .second .now) (st .pre .1) (st .pre .2) (a .text .now) e,
-      rw (o .0, o .1 .0, o .1 .1) (opened-standing (a .p) (st .pre .0) (a .first .now) (a .second .now) (st .pre .1) (st .pre .2) (a .text .now) e),
+      o .0 ∙ opened-start (a .p) (st .pre .0) (a .first .now) (a .second .now) (st .pre .1) (st .pre .2) (a .text .now) e,
+      (
+        o .1 .0 ∙ opened-first (a .p) (st .pre .0) (a .first .now) (a .second .now) (st .pre .1) (st .pre .2) (a .text .now) e,
+        o .1 .1 ∙ opened-second (a .p) (st .pre .0) (a .first .now) (a .second .now) (st .pre .1) (st .pre .2) (a .text .now) e,
+      ),
     )
 
 returns-2 : tie.Need-returns-2
 returns-2 c =
     let a = c .before .before .before .before .before .before .before .args in
     let e : recordRefusal (a .p .channels) (a .text .now) ≡ some _ = checked-refused _ _ (sym (c .before .before .before .cause .given .1) ∙ c .before .before .before .before .before .check .ensures .0) in
-    (rw (c .start-at .ensures, e), rw (c .start-at .ensures) tt)
+    (c .start-at .ensures ∙ rw (c .before .no-ticks .ensures, e), (rw e, rw e))
 
 pub judged-spec : {M : Type 1} → statement M
 judged-spec =

@@ -67,7 +67,7 @@ returns-3 : tie.Need-returns-3
 returns-3 c =
     let st = c .before .before .before .before .before .before .before .before .before .before .before .before .before .before .before in
     let a = st .args in
-    next-rows (a .text .now) (a .w) (a .first .now) (a .second .now) _ _ _ _ (c .before .before .before .before .before .before .before .before .enum-told2 .given .1) (c .before .before .before .before .step-rows .ensures)
+    next-rows (a .text .now) (a .w) (a .first .now) (a .second .now) (a .out .now) _ _ (st .pre .1) _ _ (c .before .before .before .before .before .before .before .before .enum-told2 .given .1) (c .before .before .before .before .step-rows .ensures)
 
 returns-4 : tie.Need-returns-4
 returns-4 c =

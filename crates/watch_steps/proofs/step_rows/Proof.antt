@@ -55,7 +55,7 @@ returns : tie.Need-returns
 returns c =
     let m = c .before .before .before .before .before .before in
     let a = st m .args in
-    last-stepped (a .p) (a .text .now) (m .move-on .result) (a .s) (a .first .now) (a .second .now) (under m) (a .out .now) _ _ (st m .pre .1) (c .before .before .before .before .if1 .taken) (ends m (c .before .before .before .before .if1 .taken)) (c .before .before .step-last .ensures)
+    last-stepped (a .p) (a .text .now) (m .move-on .result) (a .s) (a .first .now) (a .second .now) (under m) (a .k) (m .move-on .ensures) (a .out .now) _ _ (st m .pre .1) (c .before .before .before .before .if1 .taken) (ends m (c .before .before .before .before .if1 .taken)) (c .before .before .step-last .ensures)
 
 same-length-2 : tie.Need-same-length-2
 same-length-2 c = search needs
@@ -71,7 +71,7 @@ returns-2 c =
     let m = c .before .before .before .before .before .before .before .before .before .before in
     let a = st m .args in
     let more : 0 < m .move-on .result .left = let h = c .before .before .before .before .before .before .before .before .if1 .left in omega arith in
-    chunk-stepped (a .p) (a .text .now) (m .move-on .result) (a .s) (a .first .now) (a .second .now) (under m) more (a .out .now) _ _ (st m .pre .1) _ _ (c .before .before .before .before .step-chunk .ensures)
+    chunk-stepped (a .p) (a .text .now) (m .move-on .result) (a .s) (a .first .now) (a .second .now) (under m) (a .k) (m .move-on .ensures) more (a .out .now) _ _ (st m .pre .1) _ _ (c .before .before .before .before .step-chunk .ensures)
 
 pub step-rows-spec : {M : Type 1} → statement M
 step-rows-spec =

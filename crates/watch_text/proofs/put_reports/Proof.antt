@@ -9,7 +9,7 @@ use lib.ListN.{length, getD}
 use mir.Syntax.{w64}
 use mir.Val.{toZ, ofZ}
 use Rattle.text_put.specs.Put.{Put}
-use Rattle.text_put.proofs.PutLaws.{put-none, put-then}
+use Rattle.text_put.proofs.PutLaws.{put-long, put-none, put-then}
 use Rattle.watch_text.specs.Shown.{rowsPast}
 use Rattle.watch_text.proofs.Sizes.{past-short}
 use Rattle.watch_text.proofs.put_reports.Statement.{statement}
@@ -69,7 +69,7 @@ loop-again c =
     (omega arith, rw (add-one (l .i)) (put-then (l .inv .1) (o .0)), rw (add-one (l .i)) (past-short (st .args .ticks) (st .args .scores .now) (st .args .lengths .now) (l .i) (l .inv .2) (o .1)))
 
 same-length : tie.Need-same-length Inv-loop μ-loop
-same-length c = c .before .loop .inv .1 .long
+same-length c = put-long (c .before .loop .inv .1)
 
 returns : tie.Need-returns Inv-loop μ-loop
 returns c =
