@@ -5,7 +5,7 @@ use borrow.Author.Needs.{needs}
 use lib.ListN.{length}
 use Rattle.record.specs.Record.{bookOf}
 use Rattle.monitor.proofs.Demand.{open-parts}
-use Rattle.feed_checks.proofs.Accepted.{done, refused-for}
+use Rattle.monitor.proofs.Accepted.{done, refused-for}
 use Rattle.best.specs.Best.{bestRefusal, answered}
 use Rattle.best.proofs.Ends.{begins-inside}
 use Rattle.best.proofs.Whole.{causes}

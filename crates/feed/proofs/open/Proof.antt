@@ -2,7 +2,7 @@ use mathlib.Core.Path.{_≡_, sym, _∙_}
 use mathlib.Core.Option.{none, some}
 use lib.ListN.{length}
 use Rattle.monitor.specs.Open.{openRefusal}
-use Rattle.feed_checks.proofs.Accepted.{done, refused-for, opened}
+use Rattle.monitor.proofs.Accepted.{done, refused-for, opened}
 use borrow.Author.Needs.{needs}
 use Rattle.feed.proofs.open.Statement.{statement}
 use Rattle.feed.proofs.open.Tie as tie
