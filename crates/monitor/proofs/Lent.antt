@@ -1,7 +1,7 @@
 -- What feeding makes of any lent table: tables of what is reached from its cells.
 use Prim.Native.Nat.{ℕ, zero, suc, _+_, _<_}
 use native.Mathlib.Omega.{arith}
-use mathlib.Core.Path.{_≡_, refl, sym, ap, subst, fun-ext, _∙_}
+use mathlib.Core.Path.{_≡_, refl, sym, ap, subst, _∙_}
 use mathlib.Core.Logic.{_⊎_}
 use mathlib.Core.List.{List}
 use mathlib.Core.Option.{Option, none}
@@ -20,8 +20,7 @@ use Rattle.pattern.specs.Distance.{Sample}
 use Rattle.pattern.proofs.SoundLaws.{parts}
 use Rattle.record.specs.Joined.{sameSample}
 use Rattle.record.proofs.JoinedLaws.{same-self}
-use Rattle.walks.specs.Automaton.{View}
-use Rattle.walks.specs.Tables.{Table}
+use Rattle.walks.specs.Tables.{Table, next}
 use Rattle.walks.proofs.TableBest.{table-best}
 use Rattle.walks.proofs.Entries.{reports-reached}
 use Rattle.book.specs.Automaton.{sameClocks, heldAutomaton}
@@ -64,7 +63,8 @@ module _ (p : Pattern) (s : State) (t u : List ℤ) (c : Call) (given : feedRefu
   table n = ticksLater p (callView p s vs) (heldBy p t) n
 
   table-is : (n : ℕ) → tableAfter p s t vs n ≡ table n
-  table-is n = ap (λ (𝓥 : View ℤ). ticksLater p 𝓥 (heldBy p t) n) (fun-ext (view-is p s vs))
+  table-is zero = refl
+  table-is (suc n) = λ i. next (weightingOf (p .weighing)) (heldAutomaton p) sameClocks (p .high) (cellStates p) (view-is p s vs n i) (table-is n i)
 
   -- ---- cells
 

@@ -69,7 +69,7 @@ Ending p s t vs n len w =
 -- the second held".
 pub record FedFrom (p : Pattern) (s : State) (t u : List ℤ) (c : Call) : Type 0 where
   -- a needed cell of the first table: the best worth that is reached in its state; the mark, which `heldIn` reads as none,
-  -- exactly if nothing is
+  -- exactly if nothing is. (A shorter call says so of the cells within a longer one.)
   pub cells : (i : ℕ) → i < cellsNeeded p
       → IsBest (weightingOf (p .weighing) .order) (Reached p s t (c .values) (c .duration) (stateAt p i)) (heldIn (getD (feedFirst p s t u c) i mark))
   -- report place i: the best and shortest of what may end after i + 1 ticks; 0 and 0 exactly if nothing may
