@@ -3,7 +3,7 @@ use Prim.Native.Nat.{ℕ, _-_, _≤_}
 use mathlib.Core.Path.{_≡_, sym, ap, _∙_}
 use mathlib.Core.List.{List, [], _∷_}
 use mathlib.Core.Option.{none}
-use mathlib.Core.Bool.{Bool, true, false, not}
+use mathlib.Core.Bool.{Bool, true, not}
 use borrow.Author.Tests.{not-false}
 use lib.ListN.{length}
 use lib.IntN.{ℤ}
@@ -20,7 +20,7 @@ use Rattle.monitor.specs.Cells.{layout, written}
 use Rattle.monitor.specs.Tick.{openTable}
 use Rattle.monitor.specs.Open.{tableTooShort, marks, openRefusal, openState, openFirst, openSecond}
 use Rattle.monitor.proofs.Written.{written-again, marks-again}
-use Rattle.monitor.proofs.Between.{no-cause}
+use Rattle.monitor.proofs.Accepted.{no-cause}
 use Rattle.monitor.proofs.Demand.{open-parts, fresh}
 use Rattle.best.specs.declared.Search.{Search}
 use Rattle.best.specs.Best.{chosenTo, bestRefusal, bestFirst, bestSecond}

@@ -1,8 +1,8 @@
 -- Holding the clocks of a sound pattern at their ceilings goes unnoticed.
 use Prim.Native.Nat.{ℕ, zero, suc, _+_, _-_, _<_, min}
 use native.Mathlib.Omega.{arith}
-use mathlib.Core.Path.{_≡_, refl, ap, _∙_}
-use mathlib.Core.List.{List, [], _∷_, map, zipWith, flatMap, List·Memᴰ}
+use mathlib.Core.Path.{_≡_, refl, _∙_}
+use mathlib.Core.List.{List, [], _∷_, map, zipWith, List·Memᴰ}
 use mathlib.Core.Bool.{Bool, true, false, cond, _&&_}
 use borrow.Author.Tests.{lt-ltb, ltb-true}
 use lib.Dec.{ltb}
@@ -16,7 +16,6 @@ use Rattle.pattern.specs.Clocks.{Clocks, clockAt, guardHolds, guardsHold, after
 use Rattle.pattern.specs.Cells.{ceilingOf, radixOf, heldAt}
 use Rattle.pattern.proofs.SoundLaws.{both, parts, edge-parts}
 use Rattle.pattern.proofs.Claims.{guards-see-held}
-use Rattle.walks.specs.Holding.{Holding}
 use Rattle.book.specs.Automaton.{ceilings, held}
 use Rattle.book.specs.Claims.{CeilingsHold}
 use Rattle.book.proofs.Members.{all-member, all-same, in-flatMap}
@@ -76,11 +75,10 @@ map-at f (x ∷ l) (suc k) h = map-at f l k (omega arith)
 module _ (p : Pattern) (sound : soundOf p ≡ true) where
   -- the ceiling of a clock that the pattern has
   ceiling-at : (k : ℕ) → k < p .clocks → getD (ceilings p) k 0 ≡ ceilingOf p k
-  unfolding radixOf
   ceiling-at k h =
       let few = parts p sound .fewClocks in
-      map-at (λ n. radixOf p n - 1) (0 ∷ 1 ∷ 2 ∷ 3 ∷ []) k (omega arith)
-      ∙ rw (number-at k (omega arith), lt-ltb k (p .clocks) h) (omega arith)
+      map-at (λ n. cond (ltb n (p .clocks)) (ceilingOf p n) 0) (0 ∷ 1 ∷ 2 ∷ 3 ∷ []) k (omega arith)
+      ∙ rw (number-at k (omega arith), lt-ltb k (p .clocks) h)
 
   edge-of : (e : Edge) → List·Memᴰ e (edgesOf p) → edgeSound (p .clocks) (p .placecount) e ≡ true
   edge-of e m = all-member (edgeSound (p .clocks) (p .placecount)) (edgesOf p) (parts p sound .edges .front) e m
@@ -99,6 +97,26 @@ module _ (p : Pattern) (sound : soundOf p ≡ true) where
       let at : clockAt (held p cs) (g .clock) ≡ heldAt p (g .clock) (clockAt cs (g .clock)) =
       held-at (ceilings p) cs (g .clock) (omega arith) ∙ rw (ceiling-at (g .clock) k) (omega arith) in
       rw at (guards-see-held p g (in-flatMap guardsOf (edgesOf p) e g m i) (clockAt cs (g .clock)))
+
+-- the same by radices, each a ceiling and one more
+module _ (p : Pattern) where
+  radix-held : (k c : ℕ) → min (cond (ltb k (p .clocks)) (ceilingOf p k) 0) c ≡ min c (radixOf p k - 1)
+  unfolding radixOf
+  radix-held k c = by (ltb k (p .clocks))
+    where
+      by : (x : Bool) → min (cond x (ceilingOf p k) 0) c ≡ min c (cond x (ceilingOf p k + 1) 1 - 1)
+      by true = omega arith
+      by false = omega arith
+
+  radices-held : (ks cs : List ℕ) → zipWith min (map (λ k. cond (ltb k (p .clocks)) (ceilingOf p k) 0) ks) cs ≡ zipWith (λ r c. min c (r - 1)) (map (radixOf p) ks) cs
+  unfolding zipWith
+  radices-held [] cs = refl
+  radices-held (k ∷ ks) [] = refl
+  radices-held (k ∷ ks) (c ∷ cs) = rw (radix-held k c, radices-held ks cs)
+
+  pub held-by-radices : (cs : Clocks) → held p cs ≡ zipWith (λ r c. min c (r - 1)) (radixOf p 0 ∷ radixOf p 1 ∷ radixOf p 2 ∷ radixOf p 3 ∷ []) cs
+  unfolding held
+  held-by-radices cs = radices-held (0 ∷ 1 ∷ 2 ∷ 3 ∷ []) cs
 
 pub ceilings-hold : CeilingsHold
 unfolding held guardsHold afterResets

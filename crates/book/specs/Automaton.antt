@@ -1,6 +1,8 @@
 -- A pattern as an automaton, the test of its clocks, and its clocks held at their ceilings.
-use Prim.Native.Nat.{ℕ, _-_, min}
+use Prim.Native.Nat.{ℕ, min}
 use mathlib.Core.List.{List, [], _∷_, map, zipWith}
+use mathlib.Core.Bool.{cond}
+use lib.Dec.{ltb}
 use Rattle.integers.specs.Equal.{sameNumbers}
 use Rattle.integers.proofs.Equal.{numbers-eq, numbers-self}
 use Rattle.pattern.specs.declared.Edge.{Edge}
@@ -8,7 +10,7 @@ use Rattle.pattern.specs.declared.Pattern.{Pattern}
 use Rattle.pattern.specs.InUse.{placeAt, edgesOf}
 use Rattle.pattern.specs.Kinds as kinds
 use Rattle.pattern.specs.Clocks.{Clocks, zeroClocks, later, guardsHold, afterResets}
-use Rattle.pattern.specs.Cells.{radixOf}
+use Rattle.pattern.specs.Cells.{ceilingOf}
 use Rattle.walks.specs.Automaton.{Automaton, Same}
 use Rattle.walks.specs.Holding.{heldAt}
 
@@ -31,9 +33,9 @@ automatonOf p =
 abbrev pub sameClocks : Same Clocks
 sameClocks = record { same = sameNumbers; same-eq = numbers-eq; same-self = numbers-self }
 
--- The ceilings of four clocks: a radix counts from 0 to the ceiling. A clock that the pattern lacks has ceiling 0.
+-- The ceilings of four clocks, 0 for a clock that the pattern lacks: no guard asks about that one.
 abbrev pub ceilings : Pattern → List ℕ
-ceilings p = map (λ k. radixOf p k - 1) (0 ∷ 1 ∷ 2 ∷ 3 ∷ [])
+ceilings p = map (λ k. cond (ltb k (p .clocks)) (ceilingOf p k) 0) (0 ∷ 1 ∷ 2 ∷ 3 ∷ [])
 
 -- "clocks are held at their ceiling"
 unfoldable pub held : Pattern → Clocks → Clocks

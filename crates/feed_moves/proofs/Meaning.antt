@@ -5,15 +5,12 @@ use mathlib.Core.Path.{_≡_, refl, sym, ap, subst, fun-ext, _∙_}
 use mathlib.Core.Logic.{_⊎_, inl, inr, ⊎-elim}
 use mathlib.Core.List.{List, _++_, map, List·Memᴰ}
 use mathlib.Core.Option.{none, some}
-use mathlib.Core.Bool.{Bool, true, false, not, cond, _||_}
-use borrow.Author.Tests.{leb-true, lt-ltb}
+use mathlib.Core.Bool.{Bool, true, false, cond}
+use borrow.Author.Tests.{lt-ltb}
 use native.Mathlib.Nat.{mul-le-mul-right}
-use lib.Dec.{T, leb, ltb}
-use lib.ListN.{length, take, drop, getD, length-map, length-take, List·getD-map}
-use lib.Seq.{getD-take}
+use lib.Dec.{ltb}
+use lib.ListN.{length, take, drop, getD, length-map, List·getD-map}
 use lib.IntN.{ℤ, pos, natAbs}
-use Rattle.integers.specs.Equal.{eqZ}
-use Rattle.integers.proofs.Equal.{eq-true}
 use Rattle.weighting.specs.declared.Weighing.{Weighing}
 use Rattle.weighting.specs.declared.Weighing.the-variants.{Margin, Sum}
 use Rattle.weighting.specs.Weightings.{weightingOf}
@@ -36,7 +33,6 @@ use Rattle.walks.proofs.Cut.{only-cells}
 use Rattle.walks.proofs.Rows.{reports-only-cells}
 use Rattle.book.specs.Automaton.{sameClocks, heldAutomaton}
 use Rattle.book.specs.View.{counts, gainIn, tickView}
-use Rattle.book.proofs.Members.{all-member, at-member}
 use Rattle.cells.specs.declared.Layout.{Layout}
 use Rattle.cells.specs.Layout.{layoutOf, cellsIn, Laid}
 use Rattle.cells.proofs.Blocks.{row-next}
@@ -45,7 +41,7 @@ use Rattle.table.specs.declared.report.Report.{Report}
 use Rattle.table.specs.Moves.{cellAt, openOf, gainAt}
 use Rattle.table.specs.Reports.{noted, toldOf}
 use Rattle.table.proofs.Told.{told-keeps}
-use Rattle.table.specs.Asks.{Sized, Known, Whole, Ticking, Filed}
+use Rattle.table.specs.Asks.{Known, Whole, Ticking, Filed}
 use Rattle.table_laws.specs.Meaning.{resultOf, About, Seen, Viewed}
 use Rattle.table_laws.specs.Patterns.{Flags}
 use Rattle.table_laws.proofs.Rows.{tick-keeps-whole, tick-leaves-further, open-leaves-further}
@@ -58,6 +54,7 @@ use Rattle.monitor.specs.Tick.{openTable, ticksLater, scoreIn, lengthIn}
 use Rattle.monitor.specs.Feed.{cellFine, pieceView}
 use Rattle.monitor.proofs.Numbers.{made-in, made-only}
 use Rattle.monitor.proofs.CellLaws.{laid, cells-are, at-index, celled-at, is-cell}
+use Rattle.monitor.proofs.Written.{fine-at}
 use Rattle.monitor.proofs.Sizes.{GainSized, gain-sized}
 use Rattle.feed_ticks.specs.Ticks.{kindFlag, kindFlags, gainsOf, viewIn, Ground, groundOf, viewAt, tableTo, scoresTo, lengthsTo, reportIn, Telling}
 use Rattle.feed_moves.proofs.Lists.{same-default, is-written}
@@ -302,25 +299,11 @@ module _ (p : Pattern) (sound : soundOf p ≡ true) where
 
   -- ---- cells that feeding does not refuse can be moved
 
-  fine-sized : (z : ℤ) → cellFine z ≡ true → (z ≡ mark) ⊎ (natAbs z ≤ 32760000000)
-  unfolding cellFine
-  fine-sized z h = by (eqZ z mark) refl h
-    where
-      by : (x : Bool) → eqZ z mark ≡ x → x || leb (natAbs z) 32760000000 ≡ true → (z ≡ mark) ⊎ (natAbs z ≤ 32760000000)
-      by true e q = inl (eq-true z mark e)
-      by false e q = inr (leb-true _ _ q)
-
   pub fine-whole : (t : List ℤ) → cellsNeeded p ≤ length t → all cellFine (take (cellsNeeded p) t) ≡ true → Whole t (layout p)
   fine-whole t long h =
       let e = cells-are p sound in
       record {
         inside = omega arith;
-        bounded = λ n i low row. ⊎-elim inl (λ k. inr (omega arith)) (fine-sized (cellAt t (n * layout p .row + i)) (cell-fine (n * layout p .row + i)
-            (let a = row-next n (layout p .row) in let b : (n + 1) * layout p .row ≤ cellsIn (layout p) = mul-le-mul-right (layout p .row) (omega arith) in omega arith)));
+        bounded = λ n i low row. ⊎-elim inl (λ k. inr (omega arith)) (fine-at p sound t long h (n * layout p .row + i) (pos 0)
+            (let a = row-next n (layout p .row) in let b : (n + 1) * layout p .row ≤ cellsIn (layout p) = mul-le-mul-right (layout p .row) (omega arith) in omega arith));
       }
-    where
-      cell-fine : (j : ℕ) → j < cellsNeeded p → cellFine (cellAt t j) ≡ true
-      cell-fine j l =
-          let long′ : j < length (take (cellsNeeded p) t) = let q = length-take (cellsNeeded p) t in omega arith in
-          subst (λ (z : ℤ). cellFine z ≡ true) (getD-take (cellsNeeded p) t j (pos 0) l)
-          (all-member cellFine (take (cellsNeeded p) t) h (getD (take (cellsNeeded p) t) j (pos 0)) (at-member (take (cellsNeeded p) t) j (pos 0) long′))

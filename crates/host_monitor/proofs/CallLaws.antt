@@ -16,7 +16,7 @@ use Rattle.monitor.specs.declared.After.{After}
 use Rattle.monitor.specs.declared.Answer.the-variants.{Done, Refused}
 use Rattle.monitor.specs.Open.{openRefusal, openFirst, openSecond}
 use Rattle.monitor.specs.Feed.{Call, feedRefusal}
-use Rattle.feed_checks.proofs.Accepted.{done, refused-for}
+use Rattle.monitor.proofs.Accepted.{done, refused-for}
 use Rattle.feed.specs.After.{openedOf, fedOf}
 use Rattle.state_slice.specs.Slice.{holdsState, stateIn, withState}
 use Rattle.state_slice.proofs.Slices.{read-is-written}

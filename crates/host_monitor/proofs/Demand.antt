@@ -25,7 +25,7 @@ use Rattle.monitor.specs.Open.{answerOf, unlessRefused, openRefusal, openFirst,
 use Rattle.monitor.specs.Feed.{Call, feedRefusal, feedState}
 use Rattle.monitor.specs.Demand.{bookAfter, AllRight}
 use Rattle.monitor.proofs.Demand.{demand3}
-use Rattle.feed_checks.proofs.Accepted.{fed}
+use Rattle.monitor.proofs.Accepted.{fed}
 use Rattle.state_slice.specs.Slice.{isValue, holdsState, stateIn, withState}
 use Rattle.state_slice.specs.Claims.{IsState}
 use Rattle.state_slice.proofs.Entries.{in-range-is-value}

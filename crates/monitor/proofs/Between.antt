@@ -3,11 +3,11 @@ use Prim.Native.Nat.{ℕ, zero, suc, _+_, _-_, _≤_, _<_}
 use native.Mathlib.Omega.{arith}
 use mathlib.Core.Path.{_≡_, refl, sym, ap, subst, _∙_}
 use mathlib.Core.List.{List, [], _∷_, _++_, List·Memᴰ}
-use mathlib.Core.Option.{Option, none, some, Option·none-ne-some}
-use mathlib.Core.Bool.{Bool, true, false, not, cond, _&&_, _||_, or-true}
-use borrow.Author.Tests.{eqb-true, leb-true, ltb-true, ltb-false, le-leb, le-ltb, ne-eqb, not-false}
-use lib.Dec.{T, eqb, leb, ltb}
-use lib.ListN.{length, take, drop, getD, replicate, length-append, length-replicate, List·getD-eq-default}
+use mathlib.Core.Option.{none, some}
+use mathlib.Core.Bool.{Bool, true, false, not, _||_, or-true}
+use borrow.Author.Tests.{ltb-true, ltb-false, le-leb, le-ltb, ne-eqb}
+use lib.Dec.{eqb, leb, ltb}
+use lib.ListN.{length, take, drop, replicate, length-append, length-replicate, List·getD-eq-default}
 use lib.Seq.{take-at, drop-at}
 use lib.IntN.{ℤ, pos, natAbs}
 use Rattle.weighting.specs.Weightings.{weightingOf}
@@ -16,16 +16,16 @@ use Rattle.weighting.proofs.Cell.{NoMark}
 use Rattle.pattern.specs.declared.Pattern.{Pattern}
 use Rattle.pattern.specs.declared.Refusal.{Refusal}
 use Rattle.pattern.specs.declared.Refusal.the-variants.{BrokenRecord, TooManyTicks, OutputTooShort}
-use Rattle.pattern.specs.Slots.{all, within}
+use Rattle.pattern.specs.Slots.{all}
 use Rattle.pattern.specs.Sound.{isNull, soundOf}
 use Rattle.pattern.specs.Clocks.{Clocks}
 use Rattle.pattern.specs.Cells.{cellsNeeded}
 use Rattle.pattern.specs.Distance.{Sample}
-use Rattle.pattern.proofs.SoundLaws.{both, parts}
+use Rattle.pattern.proofs.SoundLaws.{parts}
 use Rattle.pattern.proofs.SlotLaws.{all-append}
 use Rattle.record.specs.Record.{Book, valueInRange}
 use Rattle.record.specs.Joined.{sameSample}
-use Rattle.walks.specs.Automaton.{State as Place, View}
+use Rattle.walks.specs.Automaton.{State as Place}
 use Rattle.walks.specs.Tables.{Table}
 use Rattle.walks.proofs.Cut.{cut, only-passed, only-cells}
 use Rattle.book.specs.View.{sampleAt, before, viewOf}
@@ -34,12 +34,13 @@ use Rattle.monitor.specs.declared.State.{State}
 use Rattle.monitor.specs.Cells.{cellStates, heldBy, written}
 use Rattle.monitor.specs.Tick.{openTable, ticksLater}
 use Rattle.monitor.specs.State.{lastSample, stateSound, pieceLater}
-use Rattle.monitor.specs.Open.{firstCause, marks}
+use Rattle.monitor.specs.Open.{marks}
 use Rattle.monitor.specs.Feed.{Call, pieceBroken, tooManyTicks, reportsTooShort, feedCause, feedRefusal, isNew, pieceView, tableAfter}
 use Rattle.monitor.specs.Demand.{refusalBy}
 use Rattle.monitor.proofs.CellLaws.{Celled, of-cells, in-cells}
 use Rattle.monitor.proofs.Sizes.{table-sized, sized-low}
 use Rattle.monitor.proofs.Written.{held-written, written-length, marks-length, cells-fine}
+use Rattle.monitor.proofs.Accepted.{no-cause, neither, whole}
 use Rattle.monitor.proofs.PieceViews.{sample-front, view-front, longer, sample-new, view-new, before-end}
 
 -- a sample as an accepted piece has it
@@ -59,19 +60,6 @@ pub record Between (p : Pattern) (b : Book) (s : State) (t u : List ℤ) : Type 
   pub firstLong : cellsNeeded p ≤ length t
   pub secondLong : cellsNeeded p ≤ length u
   pub holds : (x : Place Clocks) → List·Memᴰ x (cellStates p) → heldBy p t x ≡ bookTable p b x
-
--- ---- no cause
-
-pub no-cause : (x : Bool) (r : Refusal) (cs : List (Bool × Refusal)) → firstCause ((x, r) ∷ cs) ≡ none → (x ≡ false) × (firstCause cs ≡ none)
-no-cause true r cs e = absurd (Option·none-ne-some r (sym e))
-no-cause false r cs e = (refl, e)
-
-pub neither : (x y : Bool) → x || y ≡ false → (x ≡ false) × (y ≡ false)
-neither true y e = (e, absurd (no e))
-  where
-    no : _≡_ {A = Bool} true false → ⊥
-    no e = let z : _≡_ {A = ℕ} 0 1 = cc in omega arith
-neither false y e = (refl, e)
 
 -- ---- lists of zeros
 
@@ -165,18 +153,17 @@ module _ (p : Pattern) (b : Book) (s : State) (t u : List ℤ) (h : Between p b 
       pub lengths : c .duration ≤ length (c .lengths)
 
     pub piece : Piece
-    unfolding refusalBy pieceBroken
+    unfolding refusalBy
     piece =
         let third : List (Bool × Refusal) = (reportsTooShort (length (c .scores)) (length (c .lengths)) (c .duration), OutputTooShort) ∷ [] in
         let one = no-cause (pieceBroken p (c .duration) (c .values)) BrokenRecord ((tooManyTicks (length b) (c .duration), TooManyTicks) ∷ third) accepted in
         let two = no-cause (tooManyTicks (length b) (c .duration)) TooManyTicks third (one .1) in
         let three = no-cause (reportsTooShort (length (c .scores)) (length (c .lengths)) (c .duration)) OutputTooShort [] (two .1) in
-        let whole = both (within 1 65_535 (c .duration) && eqb (length (c .values)) (p .channels)) (all valueInRange (c .values)) (not-false _ (one .0)) in
-        let counted = both (within 1 65_535 (c .duration)) (eqb (length (c .values)) (p .channels)) (whole .0) in
+        let w = whole p (c .duration) (c .values) (one .0) in
         let slices = neither (ltb (length (c .scores)) (c .duration)) (ltb (length (c .lengths)) (c .duration)) (three .0) in
         record {
-          some = leb-true 1 (c .duration) (both (leb 1 (c .duration)) (leb (c .duration) 65_535) (counted .0) .0);
-          values = (eqb-true _ _ (counted .1), whole .1);
+          some = w .low;
+          values = (w .count, w .values);
           room = ltb-false 2147483647 (length b + c .duration) (two .0);
           scores = ltb-false (length (c .scores)) (c .duration) (slices .0);
           lengths = ltb-false (length (c .lengths)) (c .duration) (slices .1);

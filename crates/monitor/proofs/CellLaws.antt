@@ -2,10 +2,10 @@
 use Prim.Native.Nat.{ℕ, zero, suc, _+_, _≤_, _<_, _-_, min}
 use native.Mathlib.Omega.{arith}
 use mathlib.Core.Path.{_≡_, refl, sym, ap, subst, _∙_}
-use mathlib.Core.List.{List, [], _∷_, map, zipWith, List·Memᴰ}
+use mathlib.Core.List.{[], List·Memᴰ}
 use mathlib.Core.Bool.{Bool, true, false, cond}
 use borrow.Author.Tests.{lt-ltb, ltb-true, ltb-false}
-use lib.Dec.{T, eqb, ltb}
+use lib.Dec.{eqb, ltb}
 use lib.ListN.{length, getD, drop, length-map, length-drop, List·getD-eq-default}
 use lib.Seq.{getD-drop}
 use Rattle.integers.proofs.Tests.{T-true}
@@ -18,7 +18,7 @@ use Rattle.pattern.specs.declared.Kind.the-variants.{Start, Plain, End, Both}
 use Rattle.pattern.specs.Slots.{slots}
 use Rattle.pattern.specs.Sound.{noPlace, isPlain, testUnused, placeUnused, soundOf, edgeSound}
 use Rattle.pattern.specs.Clocks.{Clocks, later, afterResets}
-use Rattle.pattern.specs.Cells.{cellsNeeded, radixOf}
+use Rattle.pattern.specs.Cells.{cellsNeeded}
 use Rattle.pattern.proofs.SoundLaws.{both, parts, edge-parts}
 use Rattle.pattern.proofs.ListLaws.{length-zip}
 use Rattle.walks.specs.Automaton.{State, entering, stayed, taken}
@@ -26,11 +26,12 @@ use Rattle.walks.specs.Walks.{Move, stays, takes}
 use Rattle.walks.specs.Tables.{Closed}
 use Rattle.walks.proofs.States as states
 use Rattle.book.specs.Automaton.{ceilings, held, sameClocks, heldAutomaton}
+use Rattle.book.proofs.Ceilings.{held-by-radices}
 use Rattle.book.proofs.Members.{all-member, at-member}
 use Rattle.cells.specs.Layout.{layoutOf, Laid, cellsIn}
 use Rattle.cells.specs.Index as cell
 use Rattle.cells.proofs.Layouts.{layout-laid, cells-in-layout, radix-some}
-use Rattle.cells.specs.Index.{Found, At}
+use Rattle.cells.specs.Index.{Found}
 use Rattle.cells.proofs.Blocks.{found, at}
 use Rattle.cells.proofs.Digits.{ticked-within, reset-within}
 use Rattle.monitor.specs.Cells.{layout, stateAt, indexOf, cellStates, isCell}
@@ -114,15 +115,9 @@ module _ (p : Pattern) (sound : soundOf p ≡ true) where
 
   -- ---- closed under moves
 
-  held-is : (rs : List ℕ) (cs : Clocks) → zipWith min (map (λ r. r - 1) rs) cs ≡ zipWith (λ r c. min c (r - 1)) rs cs
-  unfolding zipWith
-  held-is [] cs = refl
-  held-is (r ∷ rs) [] = refl
-  held-is (r ∷ rs) (c ∷ cs) = let e : min (r - 1) c ≡ min c (r - 1) = omega arith in rw (e, held-is rs cs)
-
   tick-is : (cs : Clocks) → held p (later 1 cs) ≡ cell.ticked (layout p .radices) cs
-  unfolding held cell.ticked cell.held layoutOf
-  tick-is cs = held-is (radixOf p 0 ∷ radixOf p 1 ∷ radixOf p 2 ∷ radixOf p 3 ∷ []) (later 1 cs)
+  unfolding cell.ticked cell.held layoutOf
+  tick-is cs = held-by-radices p (later 1 cs)
 
   tick-four : (cs : Clocks) → length cs ≡ 4 → length (held p (later 1 cs)) ≡ 4
   unfolding held

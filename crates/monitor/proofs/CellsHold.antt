@@ -5,12 +5,12 @@ use mathlib.Core.Path.{_≡_, refl, sym, ap, subst, _∙_}
 use mathlib.Core.List.{List, [], _∷_}
 use mathlib.Core.Option.{Option, none, some}
 use mathlib.Core.Bool.{true}
-use lib.ListN.{length, take, drop, getD, replicate, length-replicate}
+use lib.ListN.{length, take, drop, replicate, length-replicate}
 use lib.Seq.{take-at, drop-at}
 use lib.IntN.{ℤ}
 use Rattle.weighting.specs.Order.{IsBest}
 use Rattle.weighting.specs.Weightings.{weightingOf}
-use Rattle.weighting.specs.Cell.{mark, cellOf, heldIn}
+use Rattle.weighting.specs.Cell.{mark, cellOf}
 use Rattle.weighting.proofs.Best.{IsBest-iff}
 use Rattle.pattern.specs.declared.Pattern.{Pattern}
 use Rattle.pattern.specs.declared.Refusal.{Refusal}
@@ -29,15 +29,15 @@ use Rattle.book.specs.View.{viewOf}
 use Rattle.book.proofs.Ceilings.{ceilings-hold}
 use Rattle.book.proofs.Unfinished.{unfinished-are-reached}
 use Rattle.monitor.specs.declared.State.{State}
-use Rattle.monitor.specs.Cells.{stateAt, cellStates, heldBy, written}
+use Rattle.monitor.specs.Cells.{stateAt, cellStates, written}
 use Rattle.monitor.specs.Tick.{openTable}
 use Rattle.monitor.specs.Open.{marks, openState, openFirst, openSecond}
 use Rattle.monitor.specs.Feed.{Call, feedRefusal, tableAfter, feedState, feedFirst, feedSecond}
 use Rattle.monitor.specs.Demand.{bookAfter}
 use Rattle.monitor.specs.Between.{NowIn, TablesHold, HoldAfter, CellsHold}
 use Rattle.monitor.proofs.Numbers.{made-rest}
-use Rattle.monitor.proofs.CellLaws.{closed, is-cell, at-index, celled-at, in-cells}
-use Rattle.monitor.proofs.Written.{written-length, marks-length}
+use Rattle.monitor.proofs.CellLaws.{closed, celled-at, in-cells}
+use Rattle.monitor.proofs.Written.{cell-is, written-length, marks-length}
 use Rattle.monitor.proofs.Between.{Between, bookTable}
 use Rattle.monitor.proofs.Demand.{after, open-parts, opened}
 
@@ -69,11 +69,6 @@ module _ (p : Pattern) (sound : soundOf p ≡ true) (b : Book) where
         IsBest-iff (weightingOf (p .weighing) .order) to-run of-run (bookTable p b (stateAt p i))
         (table-best (weightingOf (p .weighing)) (heldAutomaton p) sameClocks (viewOf p b) (p .high) (cellStates p) (closed p sound) (openTable p)
         (opening-within (weightingOf (p .weighing)) (heldAutomaton p) sameClocks (p .high) (cellStates p) (closed p sound)) (length b) (stateAt p i))
-
-    -- the lent cell says what its state holds
-    cell-is : (t : List ℤ) → heldBy p t (stateAt p i) ≡ heldIn (getD t i mark)
-    unfolding heldBy
-    cell-is t = rw (is-cell p sound (stateAt p i) (celled-at p sound i low), at-index p sound i low)
 
 -- ---- the rest of both tables
 
@@ -114,7 +109,7 @@ module _ (p : Pattern) (sound : soundOf p ≡ true) (t₀ u₀ : List ℤ) where
       record {
         cells = λ i l.
             subst (IsBest (weightingOf (p .weighing) .order) (NowIn p b i))
-            (sym (h .holds (stateAt p i) (in-cells p sound (stateAt p i) (celled-at p sound i l))) ∙ cell-is p sound b i l t)
+            (sym (h .holds (stateAt p i) (in-cells p sound (stateAt p i) (celled-at p sound i l))) ∙ cell-is p sound t i l)
             (cell-best p sound b i l);
         marked = k .marked;
         furtherFirst = k .furtherFirst;

@@ -2,68 +2,59 @@
 use Prim.Native.Nat.{ℕ, suc, _+_, _-_, _≤_, _<_}
 use native.Mathlib.Omega.{arith}
 use mathlib.Core.Path.{_≡_, refl, sym, ap, subst, _∙_}
-use mathlib.Core.Logic.{_⊎_, inl, inr}
-use mathlib.Core.List.{List, [], _∷_, _++_, map}
+use mathlib.Core.Logic.{_⊎_}
+use mathlib.Core.List.{List, [], _∷_, _++_}
 use mathlib.Core.Option.{Option, none, some}
-use mathlib.Core.Bool.{true, false, not}
-use borrow.Author.Tests.{ltb-false, not-false}
-use lib.Dec.{T, ltb}
+use mathlib.Core.Bool.{true}
 use lib.ListN.{length, drop, getD, replicate, replicate-append-replicate}
 use lib.IntN.{ℤ, pos}
 use Rattle.weighting.specs.Weightings.{weightingOf}
+use Rattle.weighting.specs.Shortest.{shortest}
+use Rattle.weighting.proofs.Best.{IsBest-iff}
 use Rattle.pattern.specs.declared.Pattern.{Pattern}
 use Rattle.pattern.specs.declared.Refusal.{Refusal}
-use Rattle.pattern.specs.declared.Refusal.the-variants.{UnsoundPattern, TableTooShort}
 use Rattle.pattern.specs.Sound.{soundOf}
-use Rattle.pattern.specs.Clocks.{Clocks}
 use Rattle.pattern.specs.Cells.{cellsNeeded}
 use Rattle.pattern.proofs.SoundLaws.{parts}
 use Rattle.record.specs.Record.{Book}
-use Rattle.walks.specs.Reports.{Wanted, Reported}
+use Rattle.walks.specs.Reports.{Wanted}
 use Rattle.walks.proofs.Rows.{reports-only-cells}
-use Rattle.walks.proofs.ReportsBest.{reports-say}
+use Rattle.walks.proofs.ReportsBest.{reports-best}
 use Rattle.book.specs.Automaton.{automatonOf, held, sameClocks, heldAutomaton}
 use Rattle.book.specs.View.{sampleAt, before, viewOf}
 use Rattle.book.proofs.Ceilings.{ceilings-hold}
 use Rattle.book.proofs.StayGains.{gains-are-worths}
 use Rattle.book.proofs.Runs.{priced-are-runs}
 use Rattle.monitor.specs.declared.State.{State}
-use Rattle.monitor.specs.Cells.{upTo, cellStates, written}
+use Rattle.monitor.specs.Cells.{cellStates, written}
 use Rattle.monitor.specs.Tick.{openTable, ticksLater, reportOf, scoreIn, lengthIn}
 use Rattle.monitor.specs.State.{noTicks}
-use Rattle.monitor.specs.Open.{answerOf, answerNumber, unlessRefused, marks, tableTooShort, openRefusal, openState, openFirst, openSecond}
+use Rattle.monitor.specs.Open.{answerOf, answerNumber, unlessRefused, marks, openRefusal, openState, openFirst, openSecond}
 use Rattle.monitor.specs.Feed.{Call, feedRefusal, reportAfter, feedState, feedFirst, feedSecond, feedScores, feedLengths}
 use Rattle.monitor.specs.Demand.{refusalBy, bookAfter, InWindow, BestRun, NoRun, Accepted, Rejected, Right, AllRight, Demand3, PossibleNumber, AllPossible, OnlyThreeCauses}
+use Rattle.monitor.proofs.Accepted.{opened as parts-of}
 use Rattle.monitor.proofs.Answers.{possible-number}
-use Rattle.monitor.proofs.Numbers.{made-front, made-rest, told-length}
+use Rattle.monitor.proofs.Reports.{scores-are, lengths-are, score-told, length-told, best-said}
+use Rattle.monitor.proofs.Numbers.{made-rest, told-length}
 use Rattle.monitor.proofs.CellLaws.{closed, of-cells}
 use Rattle.monitor.proofs.Written.{held-written, written-length, marks-length}
-use Rattle.monitor.proofs.Between.{no-cause, neither, Fine, Between, next, refusal-is, ticks-in, go-on, next-length, piece, cell-no-mark}
+use Rattle.monitor.proofs.Between.{Fine, Between, next, refusal-is, ticks-in, go-on, next-length, piece, cell-no-mark}
 
 -- ---- a report, in document 01's words
 
 module _ (p : Pattern) (sound : soundOf p ≡ true) (b : Book) (end : ℕ) (low : end ≤ length b) where
-  to-wanted : (m : ℕ) (w : ℤ) → InWindow p b end m w → Wanted (weightingOf (p .weighing)) (automatonOf p) (viewOf p b) (p .low) (p .high) end (w, m)
-  to-wanted m w r = (r .low, r .high, (r .begin, priced-are-runs p sound b (r .begin) end m w low .0 (r .run)))
+  to-wanted : (r : ℤ × ℕ) → InWindow p b end (r .1) (r .0) → Wanted (weightingOf (p .weighing)) (automatonOf p) (viewOf p b) (p .low) (p .high) end r
+  to-wanted r k = (k .low, k .high, (k .begin, priced-are-runs p sound b (k .begin) end (r .1) (r .0) low .0 (k .run)))
 
-  of-wanted : (m : ℕ) (w : ℤ) → Wanted (weightingOf (p .weighing)) (automatonOf p) (viewOf p b) (p .low) (p .high) end (w, m) → InWindow p b end m w
-  of-wanted m w r = record { begin = r .2 .0; run = priced-are-runs p sound b (r .2 .0) end m w low .1 (r .2 .1); low = r .0; high = r .1 }
-
-  said : (o : Option (ℤ × ℕ)) → Reported (weightingOf (p .weighing)) (automatonOf p) (viewOf p b) (p .low) (p .high) end o
-      → BestRun p b end (scoreIn o) (lengthIn o) ⊎ NoRun p b end (scoreIn o) (lengthIn o)
-  said none h = inr (record { noScore = refl; noLength = refl; none = λ m w r. h (w, m) (to-wanted m w r) })
-  said (some a) h =
-      inl (record {
-        attained = of-wanted (a .1) (a .0) (h .0);
-        noneBetter = λ m w r. h .1 (w, m) (to-wanted m w r);
-        noneShorter = λ m r. h .2 m (to-wanted m (a .0) r);
-      })
+  of-wanted : (r : ℤ × ℕ) → Wanted (weightingOf (p .weighing)) (automatonOf p) (viewOf p b) (p .low) (p .high) end r → InWindow p b end (r .1) (r .0)
+  of-wanted r k = record { begin = k .2 .0; run = priced-are-runs p sound b (k .2 .0) end (r .1) (r .0) low .1 (k .2 .1); low = k .0; high = k .1 }
 
   pub report-right : BestRun p b end (scoreIn (reportOf p (ticksLater p (viewOf p b) (openTable p) end))) (lengthIn (reportOf p (ticksLater p (viewOf p b) (openTable p) end)))
       ⊎ NoRun p b end (scoreIn (reportOf p (ticksLater p (viewOf p b) (openTable p) end))) (lengthIn (reportOf p (ticksLater p (viewOf p b) (openTable p) end)))
   report-right =
-      said (reportOf p (ticksLater p (viewOf p b) (openTable p) end))
-      (reports-say (weightingOf (p .weighing)) (automatonOf p) sameClocks (viewOf p b) (p .high) (gains-are-worths p b) (held p) (ceilings-hold p sound) (cellStates p) (closed p sound) (p .low) (parts p sound .someLow) end)
+      best-said p (InWindow p b end) (reportOf p (ticksLater p (viewOf p b) (openTable p) end))
+      (IsBest-iff (shortest (weightingOf (p .weighing) .order)) of-wanted to-wanted (reportOf p (ticksLater p (viewOf p b) (openTable p) end))
+      (reports-best (weightingOf (p .weighing)) (automatonOf p) sameClocks (viewOf p b) (p .high) (gains-are-worths p b) (held p) (ceilings-hold p sound) (cellStates p) (closed p sound) (p .low) (parts p sound .someLow) end))
 
 -- ---- a call
 
@@ -87,23 +78,11 @@ module _ (p : Pattern) (b : Book) (s : State) (t u : List ℤ) (h : Between p b 
         reports-only-cells (weightingOf (p .weighing)) (heldAutomaton p) sameClocks (p .high) (cellStates p) (p .low) _ _ (ticks-in p b s t u h c none-given (suc i) (omega arith))
         ∙ ap (λ (n : ℕ). reportOf p (ticksLater p (viewOf p (next p b s t u h c none-given)) (openTable p) n)) e
 
-    scores-are : feedScores p s t u c ≡ map (λ i. scoreIn (reportAfter p s t (c .values) i)) (upTo (c .duration)) ++ drop (c .duration) (c .scores)
-    scores-are = ap (λ (o : Option Refusal). unlessRefused o (map (λ i. scoreIn (reportAfter p s t (c .values) i)) (upTo (c .duration)) ++ drop (c .duration) (c .scores)) (c .scores)) feed-given
-
-    lengths-are : feedLengths p s t u c ≡ map (λ i. lengthIn (reportAfter p s t (c .values) i)) (upTo (c .duration)) ++ drop (c .duration) (c .lengths)
-    lengths-are = ap (λ (o : Option Refusal). unlessRefused o (map (λ i. lengthIn (reportAfter p s t (c .values) i)) (upTo (c .duration)) ++ drop (c .duration) (c .lengths)) (c .lengths)) feed-given
-
     pub score-at : (i : ℕ) → i < c .duration → getD (feedScores p s t u c) i (pos 0) ≡ scoreIn (reportOf p (ticksLater p (viewOf p (next p b s t u h c none-given)) (openTable p) (length b + i + 1)))
-    score-at i l =
-        ap (λ (q : List ℤ). getD q i (pos 0)) scores-are
-        ∙ made-front (λ i. scoreIn (reportAfter p s t (c .values) i)) (c .duration) i (pos 0) (drop (c .duration) (c .scores)) l
-        ∙ ap scoreIn (report-is i l)
+    score-at i l = score-told p s t u c feed-given i l ∙ ap scoreIn (report-is i l)
 
     pub length-at : (i : ℕ) → i < c .duration → getD (feedLengths p s t u c) i 0 ≡ lengthIn (reportOf p (ticksLater p (viewOf p (next p b s t u h c none-given)) (openTable p) (length b + i + 1)))
-    length-at i l =
-        ap (λ (q : List ℕ). getD q i 0) lengths-are
-        ∙ made-front (λ i. lengthIn (reportAfter p s t (c .values) i)) (c .duration) i 0 (drop (c .duration) (c .lengths)) l
-        ∙ ap lengthIn (report-is i l)
+    length-at i l = length-told p s t u c feed-given i l ∙ ap lengthIn (report-is i l)
 
     accepted : Accepted p b s t u c
     accepted =
@@ -111,10 +90,10 @@ module _ (p : Pattern) (b : Book) (s : State) (t u : List ℤ) (h : Between p b 
           answer = ap answerOf feed-given;
           reports = λ i l. same-said (length b + i + 1) _ _ _ _ _ _ book-is (score-at i l) (length-at i l)
               (report-right p (h .sound) (next p b s t u h c none-given) (length b + i + 1) (let e = next-length p b s t u h c none-given in omega arith));
-          scoresLong = ap length scores-are ∙ told-length (λ i. scoreIn (reportAfter p s t (c .values) i)) (c .duration) (c .scores) (piece p b s t u h c none-given .scores);
-          lengthsLong = ap length lengths-are ∙ told-length (λ i. lengthIn (reportAfter p s t (c .values) i)) (c .duration) (c .lengths) (piece p b s t u h c none-given .lengths);
-          laterScores = ap (drop (c .duration)) scores-are ∙ made-rest (λ i. scoreIn (reportAfter p s t (c .values) i)) (c .duration) (drop (c .duration) (c .scores));
-          laterLengths = ap (drop (c .duration)) lengths-are ∙ made-rest (λ i. lengthIn (reportAfter p s t (c .values) i)) (c .duration) (drop (c .duration) (c .lengths));
+          scoresLong = ap length (scores-are p s t u c feed-given) ∙ told-length (λ i. scoreIn (reportAfter p s t (c .values) i)) (c .duration) (c .scores) (piece p b s t u h c none-given .scores);
+          lengthsLong = ap length (lengths-are p s t u c feed-given) ∙ told-length (λ i. lengthIn (reportAfter p s t (c .values) i)) (c .duration) (c .lengths) (piece p b s t u h c none-given .lengths);
+          laterScores = ap (drop (c .duration)) (scores-are p s t u c feed-given) ∙ made-rest (λ i. scoreIn (reportAfter p s t (c .values) i)) (c .duration) (drop (c .duration) (c .scores));
+          laterLengths = ap (drop (c .duration)) (lengths-are p s t u c feed-given) ∙ made-rest (λ i. lengthIn (reportAfter p s t (c .values) i)) (c .duration) (drop (c .duration) (c .lengths));
         }
 
     after-accepted : Between p (bookAfter p b c) (feedState p s t u c) (feedFirst p s t u c) (feedSecond p s t u c)
@@ -161,12 +140,7 @@ all-possible p (c ∷ cs) b s t u h = (
 -- ---- the opening
 
 pub open-parts : (p : Pattern) (first second : ℕ) → openRefusal p first second ≡ none → (soundOf p ≡ true) × (cellsNeeded p ≤ first) × (cellsNeeded p ≤ second)
-unfolding openRefusal
-open-parts p first second e =
-    let one = no-cause (not (soundOf p)) UnsoundPattern ((tableTooShort p first second, TableTooShort) ∷ []) e in
-    let two = no-cause (tableTooShort p first second) TableTooShort [] (one .1) in
-    let both = neither (ltb first (cellsNeeded p)) (ltb second (cellsNeeded p)) (two .0) in
-    (not-false (soundOf p) (one .0), ltb-false _ _ (both .0), ltb-false _ _ (both .1))
+open-parts p first second e = let o = parts-of p first second e in (o .sound, o .tables .first, o .tables .second)
 
 pub fresh : (p : Pattern) (t u : List ℤ) → (soundOf p ≡ true) × (cellsNeeded p ≤ length t) × (cellsNeeded p ≤ length u) → Between p [] noTicks (written p (openTable p) t) (marks p u)
 unfolding before

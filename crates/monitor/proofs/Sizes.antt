@@ -1,14 +1,13 @@
 -- How large worths come: "within ±32,760,000,000". A cell of length n is within 8,000,000 × n in sum, and within 2,000,001 in
 -- margin.
-use Prim.Native.Nat.{ℕ, suc, _*_, _≤_, _<_}
+use Prim.Native.Nat.{ℕ, suc, _+_, _*_, _≤_, _<_}
 use native.Mathlib.Omega.{arith}
 use mathlib.Core.Path.{_≡_, refl, ap, subst}
-use mathlib.Core.List.{List, List·Memᴰ}
-use mathlib.Core.Option.{Option, some, Option·some-injective}
+use mathlib.Core.List.{List·Memᴰ}
+use mathlib.Core.Option.{some, Option·some-injective}
 use mathlib.Core.Bool.{Bool, true, false, not, cond, _&&_}
 use borrow.Author.Tests.{ltb-true, ltb-false, eqb-true}
-use lib.Dec.{T, eqb, ltb}
-use lib.ListN.{length}
+use lib.Dec.{eqb, ltb}
 use lib.IntN.{ℤ, natAbs}
 use Rattle.integers.proofs.Ranges.{abs-add, abs-min}
 use Rattle.weighting.specs.declared.Weighing.{Weighing}
@@ -25,11 +24,11 @@ use Rattle.pattern.proofs.SoundLaws.{both}
 use Rattle.record.specs.Record.{Book, valueInRange}
 use Rattle.record.specs.Joined.{sameSample}
 use Rattle.record.proofs.PlaceLaws.{place-at-sound, margin-place-size, place-size}
-use Rattle.walks.specs.Automaton.{State}
-use Rattle.walks.specs.Tables.{Table, opening}
+use Rattle.walks.specs.Automaton.{State, View}
+use Rattle.walks.specs.Tables.{Table}
 use Rattle.walks.proofs.States.{opening-holds}
 use Rattle.walks.proofs.Kept.{kept}
-use Rattle.book.specs.View.{counts, gainIn, sampleAt, before, viewOf}
+use Rattle.book.specs.View.{counts, gainIn, tickView, sampleAt, before, viewOf}
 use Rattle.book.specs.Automaton.{sameClocks, heldAutomaton}
 use Rattle.monitor.specs.Cells.{cellStates}
 use Rattle.monitor.specs.Tick.{openTable, ticksLater}
@@ -88,6 +87,11 @@ module _ (p : Pattern) (sound : soundOf p ≡ true) where
   gain-sized Margin k x false h = omega arith
   gain-sized Sum k x false h = omega arith
 
+  pub tick-sized : (x : Sample) → all valueInRange x ≡ true → (new f : Bool) (k : ℕ) (g : ℤ) → tickView p x new f k ≡ some g → GainSized (p .weighing) g
+  unfolding gainIn
+  tick-sized x fine new f k g q =
+      subst (GainSized (p .weighing)) (Option·some-injective _ g q) (gain-sized (p .weighing) k x (counts (p .weighing) new f) fine)
+
   open-sized : (s : State Clocks) (z : ℤ) → openTable p s ≡ some z → Sized (p .weighing) (s .len) z
   open-sized s z e =
       let h = opening-holds (weightingOf (p .weighing)) (heldAutomaton p) sameClocks s z e in
@@ -97,10 +101,28 @@ module _ (p : Pattern) (sound : soundOf p ≡ true) where
   -- every cell of a table that ticks of such samples made from the opening
   pub table-sized : (b : Book) → ((t : ℕ) → all valueInRange (sampleAt b t) ≡ true) → (n : ℕ) (s : State Clocks) (z : ℤ) → List·Memᴰ s (cellStates p)
       → ticksLater p (viewOf p b) (openTable p) n s ≡ some z → Sized (p .weighing) (s .len) z
-  unfolding gainIn
   table-sized b fine n s z m e =
       kept (weightingOf (p .weighing)) (heldAutomaton p) sameClocks (p .high) (cellStates p)
       (Sized (p .weighing)) (unit-sized (p .weighing)) (viewOf p b)
-      (λ t f k g l w q h. combine-sized (p .weighing) l w g h (subst (GainSized (p .weighing)) (Option·some-injective _ g q) (gain-sized (p .weighing) k (sampleAt b t) (counts (p .weighing) (not (sameSample (sampleAt b t) (before p b t))) f) (fine t))))
+      (λ t f k g l w q h. combine-sized (p .weighing) l w g h (tick-sized (sampleAt b t) (fine t) (not (sameSample (sampleAt b t) (before p b t))) f k g q))
       (openTable p) (λ x w i q. open-sized x w q)
       n s z m e
+
+  -- from any table whose worths are within the limit
+  combine-low : (w : Weighing) (l : ℕ) (z g : ℤ) → natAbs z ≤ 32760000000 + 8000000 * l → GainSized w g → natAbs (weightingOf w .combine z g) ≤ 32760000000 + 8000000 * suc l
+  combine-low Margin l z g h k = omega (arith, abs-min z g)
+  combine-low Sum l z g h k = omega (arith, abs-add z g)
+
+  pub lent-sized : (𝓥 : View ℤ) → ((t : ℕ) (f : Bool) (k : ℕ) (g : ℤ) → 𝓥 t f k ≡ some g → GainSized (p .weighing) g)
+      → (T₀ : Table ℤ Clocks) → ((s : State Clocks) (z : ℤ) → T₀ s ≡ some z → natAbs z ≤ 32760000000)
+      → (n : ℕ) (s : State Clocks) (z : ℤ) → List·Memᴰ s (cellStates p) → ticksLater p 𝓥 T₀ n s ≡ some z → natAbs z ≤ 32760000000 + 8000000 * s .len
+  lent-sized 𝓥 gains T₀ low n s z m e =
+      kept (weightingOf (p .weighing)) (heldAutomaton p) sameClocks (p .high) (cellStates p)
+      (λ (l : ℕ) (w : ℤ). natAbs w ≤ 32760000000 + 8000000 * l) (unit-low (p .weighing)) 𝓥
+      (λ t f k g l w q h. combine-low (p .weighing) l w g h (gains t f k g q))
+      T₀ (λ x w i q. let h = low x w q in omega arith)
+      n s z m e
+    where
+      unit-low : (w : Weighing) → natAbs (weightingOf w .unit) ≤ 32760000000 + 8000000 * 0
+      unit-low Margin = omega arith
+      unit-low Sum = omega arith

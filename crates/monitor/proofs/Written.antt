@@ -2,30 +2,36 @@
 use Prim.Native.Nat.{ℕ, suc, _+_, _-_, _≤_, _<_}
 use native.Mathlib.Omega.{arith}
 use mathlib.Core.Path.{_≡_, refl, sym, ap, subst, _∙_}
+use mathlib.Core.Logic.{_⊎_, inl, inr, ⊎-elim}
 use mathlib.Core.List.{List, [], _∷_, _++_, map, List·Memᴰ}
-use mathlib.Core.Option.{Option, none, some}
-use mathlib.Core.Bool.{Bool, true, false, or-true}
-use borrow.Author.Tests.{le-leb}
-use lib.Dec.{leb}
+use mathlib.Core.Option.{Option, none, some, Option·none-ne-some}
+use mathlib.Core.Bool.{Bool, true, false, cond, _||_, or-true}
+use borrow.Author.Tests.{le-leb, leb-true, ltb-true}
+use lib.Dec.{leb, ltb}
 use lib.ListN.{length, take, drop, getD, length-append, length-drop, length-map, length-take, replicate, length-replicate}
 use lib.Seq.{getD-take, drop-at}
 use lib.IntN.{ℤ, natAbs}
 use Rattle.integers.specs.Equal.{eqZ}
-use Rattle.integers.proofs.Equal.{eq-self}
+use Rattle.integers.proofs.Equal.{eq-self, eq-true}
+use Rattle.integers.proofs.Tests.{true-T}
 use Rattle.weighting.specs.Cell.{mark, cellOf, heldIn}
-use Rattle.weighting.proofs.Cell.{NoMark, heldIn-cellOf, cellOf-heldIn}
+use Rattle.weighting.proofs.Cell.{NoMark, heldIn-mark, heldIn-cellOf, cellOf-heldIn}
 use Rattle.pattern.specs.declared.Pattern.{Pattern}
 use Rattle.pattern.specs.Slots.{all}
 use Rattle.pattern.specs.Sound.{soundOf}
 use Rattle.pattern.specs.Clocks.{Clocks}
 use Rattle.pattern.specs.Cells.{cellsNeeded}
-use Rattle.walks.specs.Automaton.{State}
-use Rattle.walks.specs.Tables.{Table}
-use Rattle.monitor.specs.Cells.{upTo, cellStates, stateAt, indexOf, heldBy, written}
+use Rattle.pattern.proofs.SoundLaws.{both}
+use Rattle.walks.specs.Automaton.{State, sameState}
+use Rattle.walks.specs.Tables.{Table, Within}
+use Rattle.walks.proofs.States as states
+use Rattle.book.specs.Automaton.{sameClocks}
+use Rattle.book.proofs.Members.{all-member, at-member}
+use Rattle.monitor.specs.Cells.{upTo, cellStates, stateAt, indexOf, isCell, heldBy, written}
 use Rattle.monitor.specs.Open.{marks}
 use Rattle.monitor.specs.Feed.{cellFine, cellsBroken}
 use Rattle.monitor.proofs.Numbers.{from-length, made-front, made-rest, made-in, made-same}
-use Rattle.monitor.proofs.CellLaws.{Celled, is-cell, state-back, index-low, at-index, celled-at}
+use Rattle.monitor.proofs.CellLaws.{Celled, is-cell, state-back, index-low, at-index, celled-at, in-cells}
 
 module _ (p : Pattern) (sound : soundOf p ≡ true) where
   pub held-written : (U : Table ℤ Clocks) (t : List ℤ) (s : State Clocks) → Celled p sound s → NoMark (U s) → heldBy p (written p U t) s ≡ U s
@@ -44,10 +50,29 @@ module _ (p : Pattern) (sound : soundOf p ≡ true) where
   pub marks-length : (u : List ℤ) → cellsNeeded p ≤ length u → length (marks p u) ≡ length u
   marks-length u h = length-append (replicate (cellsNeeded p) mark) (drop (cellsNeeded p) u) ∙ (let d = length-drop (cellsNeeded p) u in let r = length-replicate (cellsNeeded p) mark in omega arith)
 
-  -- a cell holds what it says
-  cell-says : (t : List ℤ) (i : ℕ) → i < cellsNeeded p → getD t i mark ≡ cellOf (heldBy p t (stateAt p i))
+  -- the lent cell says what its state holds
+  pub cell-is : (t : List ℤ) (i : ℕ) → i < cellsNeeded p → heldBy p t (stateAt p i) ≡ heldIn (getD t i mark)
   unfolding heldBy
-  cell-says t i h = rw (is-cell p sound (stateAt p i) (celled-at p sound i h), at-index p sound i h) (sym (cellOf-heldIn (getD t i mark)))
+  cell-is t i h = rw (is-cell p sound (stateAt p i) (celled-at p sound i h), at-index p sound i h)
+
+  cell-says : (t : List ℤ) (i : ℕ) → i < cellsNeeded p → getD t i mark ≡ cellOf (heldBy p t (stateAt p i))
+  cell-says t i h = sym (ap cellOf (cell-is t i h) ∙ cellOf-heldIn (getD t i mark))
+
+  -- and no other state holds anything
+  pub only-cells-hold : (t : List ℤ) (x : State Clocks) (w : ℤ) → heldBy p t x ≡ some w → (indexOf p x < cellsNeeded p) × (stateAt p (indexOf p x) ≡ x)
+  unfolding heldBy isCell
+  only-cells-hold t x w e = by (isCell p x) refl e
+    where
+      by : (y : Bool) → isCell p x ≡ y → cond y (heldIn (getD t (indexOf p x) mark)) none ≡ some w → (indexOf p x < cellsNeeded p) × (stateAt p (indexOf p x) ≡ x)
+      by true q k =
+          let z = both (ltb (indexOf p x) (cellsNeeded p)) (sameState sameClocks x (stateAt p (indexOf p x))) q in
+          (ltb-true _ _ (z .0), sym (states.same-eq sameClocks x (stateAt p (indexOf p x)) (true-T _ (z .1))))
+      by false q k = absurd (Option·none-ne-some w k)
+
+  pub held-within : (t : List ℤ) → Within (cellStates p) (heldBy p t)
+  held-within t x w e =
+      let k = only-cells-hold t x w e in
+      subst (λ (y : State Clocks). List·Memᴰ y (cellStates p)) (k .1) (in-cells p sound (stateAt p (indexOf p x)) (celled-at p sound (indexOf p x) (k .0)))
 
   -- ---- cells in range
 
@@ -67,6 +92,32 @@ module _ (p : Pattern) (sound : soundOf p ≡ true) where
       rw (all-at cellFine mark (take (cellsNeeded p) t)
       (λ i l. let k : i < cellsNeeded p = omega arith in
       rw (getD-take (cellsNeeded p) t i mark k, cell-says t i k) (fine-of (heldBy p t (stateAt p i)) (λ z q. h (stateAt p i) z (celled-at p sound i k) q))))
+
+  fine-sized : (z : ℤ) → cellFine z ≡ true → (z ≡ mark) ⊎ (natAbs z ≤ 32760000000)
+  unfolding cellFine
+  fine-sized z h = by (eqZ z mark) refl h
+    where
+      by : (x : Bool) → eqZ z mark ≡ x → x || leb (natAbs z) 32760000000 ≡ true → (z ≡ mark) ⊎ (natAbs z ≤ 32760000000)
+      by true e q = inl (eq-true z mark e)
+      by false e q = inr (leb-true _ _ q)
+
+  pub fine-at : (t : List ℤ) → cellsNeeded p ≤ length t → all cellFine (take (cellsNeeded p) t) ≡ true → (i : ℕ) (d : ℤ) → i < cellsNeeded p
+      → (getD t i d ≡ mark) ⊎ (natAbs (getD t i d) ≤ 32760000000)
+  fine-at t long h i d l =
+      let e = length-take (cellsNeeded p) t in
+      fine-sized (getD t i d)
+      (subst (λ (z : ℤ). cellFine z ≡ true) (getD-take (cellsNeeded p) t i d l)
+      (all-member cellFine (take (cellsNeeded p) t) h (getD (take (cellsNeeded p) t) i d) (at-member (take (cellsNeeded p) t) i d (omega arith))))
+
+  pub held-low : (t : List ℤ) → cellsNeeded p ≤ length t → all cellFine (take (cellsNeeded p) t) ≡ true → (x : State Clocks) (w : ℤ) → heldBy p t x ≡ some w → natAbs w ≤ 32760000000
+  held-low t long h x w e =
+      let k = only-cells-hold t x w e in
+      let z : ℤ = getD t (indexOf p x) mark in
+      let q : heldIn z ≡ some w = sym (cell-is t (indexOf p x) (k .0)) ∙ ap (heldBy p t) (k .1) ∙ e in
+      ⊎-elim
+      (λ m. absurd (Option·none-ne-some w (sym heldIn-mark ∙ ap heldIn (sym m) ∙ q)))
+      (λ l. subst (λ (v : ℤ). natAbs v ≤ 32760000000) (sym (cellOf-heldIn z) ∙ ap cellOf q) l)
+      (fine-at t long h (indexOf p x) mark (k .0))
 
 -- ---- written again, or written alike
 

@@ -46,17 +46,26 @@ pub record InWindow (p : Pattern) (b : Book) (end len : ℕ) (w : ℤ) : Type 0 
   pub low : p .low ≤ len
   pub high : len ≤ p .high
 
--- "the best score among the runs with that end .., and the least length among those with that score"
-pub record BestRun (p : Pattern) (b : Book) (end : ℕ) (score : ℤ) (len : ℕ) : Type 0 where
-  pub attained : InWindow p b end len score
-  pub noneBetter : (m : ℕ) (w : ℤ) → InWindow p b end m w → T (weightingOf (p .weighing) .order .atLeast score w)
-  pub noneShorter : (m : ℕ) → InWindow p b end m score → len ≤ m
+-- What a report place says of those that it speaks of, each by its length and worth: it holds the best score among them, "and
+-- the least length among those with that score".
+pub record BestAmong (p : Pattern) (Among : (len : ℕ) (w : ℤ) → Type 0) (score : ℤ) (len : ℕ) : Type 0 where
+  pub attained : Among len score
+  pub noneBetter : (m : ℕ) (w : ℤ) → Among m w → T (weightingOf (p .weighing) .order .atLeast score w)
+  pub noneShorter : (m : ℕ) → Among m score → len ≤ m
 
--- "0 and 0 if there is no such run"
-pub record NoRun (p : Pattern) (b : Book) (end : ℕ) (score : ℤ) (len : ℕ) : Type 0 where
+-- Or "0 and 0", and there are none.
+pub record NoneAmong (Among : (len : ℕ) (w : ℤ) → Type 0) (score : ℤ) (len : ℕ) : Type 0 where
   pub noScore : score ≡ pos 0
   pub noLength : len ≡ 0
-  pub none : (m : ℕ) (w : ℤ) → ¬ InWindow p b end m w
+  pub none : (m : ℕ) (w : ℤ) → ¬ Among m w
+
+-- "the best score among the runs with that end .., and the least length among those with that score"
+abbrev pub BestRun : Pattern → Book → (end : ℕ) (score : ℤ) (len : ℕ) → Type 0
+BestRun p b end score len = BestAmong p (InWindow p b end) score len
+
+-- "0 and 0 if there is no such run"
+abbrev pub NoRun : Pattern → Book → (end : ℕ) (score : ℤ) (len : ℕ) → Type 0
+NoRun p b end score len = NoneAmong (InWindow p b end) score len
 
 -- ---- the calls
 

@@ -1,10 +1,9 @@
 -- A sound pattern's table is about its automaton with held clocks, and its cells suffice.
-use Prim.Native.Nat.{ℕ, _+_, _-_, _≤_, _<_, min}
+use Prim.Native.Nat.{ℕ, _+_, _-_, _≤_, _<_}
 use native.Mathlib.Omega.{arith}
-use native.Mathlib.Nat.{min-comm}
 use mathlib.Core.Path.{_≡_, refl, sym, ap, subst, _∙_}
 use mathlib.Core.Bool.{Bool, true, false, not, _&&_}
-use mathlib.Core.List.{List, [], _∷_, map, zipWith}
+use mathlib.Core.List.{List, [], _∷_}
 use borrow.Author.Tests.{ltb-true, ltb-false, lt-ltb}
 use lib.Dec.{T, ltb}
 use lib.ListN.{length, getD, drop, length-drop, List·getD-eq-default}
@@ -21,7 +20,6 @@ use Rattle.pattern.specs.Slots.{all, anything, slots}
 use Rattle.pattern.specs.Sound.{isPlain, noPlace, guardInRange, guardKnown, guardUnused, placeUnused, edgeSound, soundOf}
 use Rattle.pattern.specs.Kinds as kinds
 use Rattle.pattern.specs.Clocks.{Clocks, later, afterResets}
-use Rattle.pattern.specs.Cells.{radixOf}
 use Rattle.pattern.proofs.SoundLaws.{both, slotted, parts, edge-parts}
 use Rattle.pattern.proofs.ListLaws.{length-zip}
 use Rattle.cells.specs.Layout.{layoutOf, Laid}
@@ -32,6 +30,7 @@ use Rattle.cells.proofs.Layouts.{layout-laid}
 use Rattle.walks.specs.Automaton.{State, entering}
 use Rattle.walks.specs.Walks.{Move, stays, takes}
 use Rattle.book.specs.Automaton.{held, heldAutomaton}
+use Rattle.book.proofs.Ceilings.{held-by-radices}
 use Rattle.book.proofs.Members.{all-member, at-member}
 use Rattle.steps.specs.Steps.{edgeIn, Fit}
 use Rattle.table_laws.specs.Patterns.{AboutPattern, KnownPattern, ClosedPattern}
@@ -89,15 +88,9 @@ flag p h f e flags are k = by (ltb k (p .placecount)) refl
 
 -- ---- clocks held at ceilings, as the two crates say it
 
-held-same : (rs cs : List ℕ) → zipWith min (map (λ r. r - 1) rs) cs ≡ zipWith (λ r c. min c (r - 1)) rs cs
-unfolding zipWith
-held-same [] cs = refl
-held-same (r ∷ rs) [] = refl
-held-same (r ∷ rs) (c ∷ cs) = rw (min-comm (r - 1) c, held-same rs cs)
-
 tick-same : (p : Pattern) (longest : ℕ) (cs : Clocks) → held p (later 1 cs) ≡ ticked (layoutOf p longest .radices) cs
-unfolding held ticked index.held layoutOf
-tick-same p longest cs = held-same (radixOf p 0 ∷ radixOf p 1 ∷ radixOf p 2 ∷ radixOf p 3 ∷ []) (later 1 cs)
+unfolding ticked index.held layoutOf
+tick-same p longest cs = held-by-radices p (later 1 cs)
 
 pub about-pattern : AboutPattern
 unfolding layoutOf

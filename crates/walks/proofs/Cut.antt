@@ -1,15 +1,28 @@
--- Cutting the ticks into calls changes nothing; only the ticks passed matter, and only the cells.
-use mathlib.Core.Path.{_≡_, fun-ext}
+-- At length 0 a table is as an opening; cutting the ticks into calls changes nothing; only the ticks passed matter, and only
+-- the cells.
+use mathlib.Core.Path.{_≡_, refl, fun-ext}
+use mathlib.Core.Bool.{Bool, true, false, cond}
 use mathlib.Core.List.{List}
 use Prim.Native.Nat.{ℕ, zero, suc, _+_}
 use native.Mathlib.Omega.{arith}
+use lib.Dec.{eqb}
 use Rattle.weighting.specs.Weighting.{Weighting}
 use Rattle.walks.specs.Automaton.{Automaton, State, Same}
 use Rattle.walks.specs.Tables.{next, tableAt}
-use Rattle.walks.specs.Claims.{Cut, OnlyPassed, OnlyCells}
+use Rattle.walks.specs.Claims.{EmptyRunHeld, Cut, OnlyPassed, OnlyCells}
 use Rattle.walks.proofs.Rows.{only-shorter}
 
+-- to choose what is there already changes nothing
+kept-by : {A : Type 0} (t : Bool) (a b : A) → (t ≡ true → a ≡ b) → cond t a b ≡ b
+kept-by true a b h = h refl
+kept-by false a b h = refl
+
 module _ {W C E : Type 0} (𝓦 : Weighting W) (A : Automaton C E) (Q : Same C) (high : ℕ) (all : List (State C)) where
+  pub empty-run-held : EmptyRunHeld 𝓦 A Q high all
+  unfolding next
+  empty-run-held 𝓥 zero s = kept-by (eqb (s .len) 0) _ _ (λ e. refl)
+  empty-run-held 𝓥 (suc n) s = kept-by (eqb (s .len) 0) _ _ (λ e. rw e)
+
   pub cut : Cut 𝓦 A Q high all
   cut 𝓥 𝓥′ T₀ m zero h = let e : m + 0 ≡ m = omega arith in rw e
   cut 𝓥 𝓥′ T₀ m (suc n) h =

@@ -16,7 +16,8 @@ use Rattle.weighting.proofs.Shortest.{shortest-in}
 use Rattle.walks.specs.Automaton.{Automaton, TickView, View, State, Same}
 use Rattle.walks.specs.Walks.{Reach}
 use Rattle.walks.specs.Tables.{Table, next, tableAt, Closed, Within}
-use Rattle.walks.specs.Reports.{ending, entry, entries, report}
+use Rattle.walks.specs.Reports.{ending, entry, entries, report, Arrives, MayEnd}
+use Rattle.walks.specs.Claims.{ReportsReached}
 use Rattle.walks.proofs.Tests.{of-cond, in-cond}
 use Rattle.walks.proofs.States.{opening-holds}
 use Rattle.walks.proofs.Offers.{Offered}
@@ -84,13 +85,6 @@ module _ {W C E : Type 0} (A : Automaton C E) (low : ℕ) (U : Table W C) where
       (λ k. Memᴰ·append-right (entry x (U x) (ending A low x)) (to-entries s w ss k h e))
       (List·Memᴰ·cases-cons m)
 
--- n ticks after T₀ a state is reached in which a run may end, with this worth and length
-pub record Ends {W C E : Type 0} (𝓦 : Weighting W) (A : Automaton C E) (𝓥 : View W) (high : ℕ) (T₀ : Table W C) (low n : ℕ) (r : W × ℕ) : Type 0 where
-  pub there : State C
-  pub may-end : T (ending A low there)
-  pub len-is : there .len ≡ r .1
-  pub reached : Reach 𝓦 A 𝓥 high T₀ n there (r .0)
-
 module _ {W C E : Type 0} (𝓦 : Weighting W) (A : Automaton C E) (Q : Same C) (𝓥 : View W) (high : ℕ) (all : List (State C)) (closed : Closed A high all) (T₀ : Table W C) (within : Within all T₀) (low n : ℕ) where
   abbrev U : Table W C
   U = tableAt 𝓦 A Q high all 𝓥 T₀ n
@@ -98,29 +92,40 @@ module _ {W C E : Type 0} (𝓦 : Weighting W) (A : Automaton C E) (Q : Same C) 
   cell-best : (s : State C) → IsBest (𝓦 .order) (Reach 𝓦 A 𝓥 high T₀ n s) (U s)
   cell-best s = table-best 𝓦 A Q 𝓥 high all closed T₀ within n s
 
-  entry-ends : (r : W × ℕ) → Entered A low U all r → Ends 𝓦 A 𝓥 high T₀ low n r
+  entry-ends : (r : W × ℕ) → Entered A low U all r → MayEnd 𝓦 A 𝓥 low high T₀ n r
   entry-ends r k =
       let b : IsBest (𝓦 .order) (Reach 𝓦 A 𝓥 high T₀ n (k .cell)) (some (r .0)) = rw (k .holds) at (cell-best (k .cell)) in
-      record { there = k .cell; may-end = k .ends; len-is = k .len-is; reached = b .0 }
-
-  ends-entry : (r : W × ℕ) → Ends 𝓦 A 𝓥 high T₀ low n r → (q : W × ℕ) × List·Memᴰ q (entries A low U all) × T (shortest (𝓦 .order) .atLeast q r)
-  ends-entry r k = go (U (k .there)) refl (cell-best (k .there))
-    where
-      go : (o : Option W) → U (k .there) ≡ o → IsBest (𝓦 .order) (Reach 𝓦 A 𝓥 high T₀ n (k .there)) o → (q : W × ℕ) × List·Memᴰ q (entries A low U all) × T (shortest (𝓦 .order) .atLeast q r)
-      go none e h = absurd (h (r .0) (k .reached))
-      go (some w) e h = (
-        (w, k .there .len),
-        to-entries A low U (k .there) w all (reach-in 𝓦 A Q high all closed 𝓥 T₀ within (k .reached)) (k .may-end) e,
-        shortest-in (𝓦 .order) (w, k .there .len) r (h .1 (r .0) (k .reached), λ _. omega (arith, k .len-is)),
+      let e = ending-out A low (k .cell) (k .ends) in (
+        omega (arith, e .2, k .len-is),
+        omega (arith, closed .short (k .cell) (k .is-cell), k .len-is),
+        record { there = k .cell; len-is = k .len-is; just-entered = e .0; is-end = e .1; reached = b .0 },
       )
 
-  pub report-best : IsBest (shortest (𝓦 .order)) (Ends 𝓦 A 𝓥 high T₀ low n) (report 𝓦 A low all U)
+  module _ (r : W × ℕ) (k : MayEnd 𝓦 A 𝓥 low high T₀ n r) where
+    abbrev a : Arrives 𝓦 A 𝓥 high T₀ n (r .1) (r .0)
+    a = k .2
+
+    ends-entry : (q : W × ℕ) × List·Memᴰ q (entries A low U all) × T (shortest (𝓦 .order) .atLeast q r)
+    ends-entry = go (U (a .there)) refl (cell-best (a .there))
+      where
+        go : (o : Option W) → U (a .there) ≡ o → IsBest (𝓦 .order) (Reach 𝓦 A 𝓥 high T₀ n (a .there)) o → (q : W × ℕ) × List·Memᴰ q (entries A low U all) × T (shortest (𝓦 .order) .atLeast q r)
+        go none e h = absurd (h (r .0) (a .reached))
+        go (some w) e h = (
+          (w, a .there .len),
+          to-entries A low U (a .there) w all (reach-in 𝓦 A Q high all closed 𝓥 T₀ within (a .reached)) (ending-in A low (a .there) (a .just-entered) (a .is-end) (omega (arith, k .0, a .len-is))) e,
+          shortest-in (𝓦 .order) (w, a .there .len) r (h .1 (r .0) (a .reached), λ _. omega (arith, a .len-is)),
+        )
+
+  report-best : IsBest (shortest (𝓦 .order)) (MayEnd 𝓦 A 𝓥 low high T₀ n) (report 𝓦 A low all U)
   unfolding report
   report-best =
       IsBest-more (shortest (𝓦 .order))
       (λ r m. entry-ends r (of-entries A low U all r m))
       ends-entry
       (report 𝓦 A low all U) (bestOf-best (shortest (𝓦 .order)) (entries A low U all))
+
+pub reports-reached : {W C E : Type 0} (𝓦 : Weighting W) (A : Automaton C E) (Q : Same C) (𝓥 : View W) (high : ℕ) → ReportsReached 𝓦 A Q 𝓥 high
+reports-reached 𝓦 A Q 𝓥 high all closed T₀ within low n = report-best 𝓦 A Q 𝓥 high all closed T₀ within low n
 
 -- ---- one tick
 

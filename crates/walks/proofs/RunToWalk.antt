@@ -13,7 +13,8 @@ use Rattle.walks.specs.Automaton.{Automaton, View, State, entering, stay
 use Rattle.walks.specs.Walks.{stays, takes, Reach, held, begin, move}
 use Rattle.walks.specs.Runs.{Step, later, Leg, total, stayGains, together, Run}
 use Rattle.walks.specs.Tables.{opening}
-use Rattle.walks.specs.Claims.{Worthy, Arrives}
+use Rattle.walks.specs.Reports.{Arrives}
+use Rattle.walks.specs.Claims.{Worthy}
 use Rattle.walks.proofs.States.{opening-starts}
 use Rattle.walks.proofs.Gains.{gains, consIf-some, appendIf-some, run-gains}
 use Rattle.walks.proofs.Rest.{Rest}
@@ -63,7 +64,7 @@ module _ {W C E : Type 0} (𝓦 : Weighting W) (A : Automaton C E) (𝓥 : View 
       go (suc k) o g b e = lands k (x .edge) gs r (l .known) (l .fits) g b e
 
   arrives : (xs : List (Step E)) (gs : List W) {n : ℕ} {s : State C} {v : W} → R n s v → Rest A 𝓥 n s xs gs → s .len + total xs ≤ high
-      → Arrives 𝓦 A Q 𝓥 high (n + total xs) (s .len + total xs) (combineFrom 𝓦 v gs)
+      → Arrives 𝓦 A 𝓥 high (opening 𝓦 A Q) (n + total xs) (s .len + total xs) (combineFrom 𝓦 v gs)
   unfolding gains combineFrom
   arrives [] gs {n} {s} {v} r z h =
       let e : [] ≡ gs = Option·some-injective [] gs (z .gained) in
@@ -78,7 +79,7 @@ module _ {W C E : Type 0} (𝓦 : Weighting W) (A : Automaton C E) (𝓥 : View 
   arrives (x ∷ xs) gs {n} {s} {v} r z h =
       let k = appendIf-some (stayGains 𝓥 (s .entered) n (A .source (x .edge)) (x .stay)) (gains A 𝓥 true (n + x .stay) xs) gs (z .gained) in
       let y = first-step x (k .0) r (z .goes .0) (omega arith) (k .2) in
-      let a : Arrives 𝓦 A Q 𝓥 high (n + x .stay + total xs) (s .len + x .stay + total xs) (combineFrom 𝓦 (combineFrom 𝓦 v (k .0)) (k .1)) =
+      let a : Arrives 𝓦 A 𝓥 high (opening 𝓦 A Q) (n + x .stay + total xs) (s .len + x .stay + total xs) (combineFrom 𝓦 (combineFrom 𝓦 v (k .0)) (k .1)) =
       arrives xs (k .1) y (record { goes = z .goes .1; may-end = tt; gained = k .3 }) (omega arith) in
       let t : n + (x .stay + total xs) ≡ n + x .stay + total xs = omega arith in
       let u : s .len + (x .stay + total xs) ≡ s .len + x .stay + total xs = omega arith in
@@ -88,10 +89,10 @@ module _ {W C E : Type 0} (𝓦 : Weighting W) (A : Automaton C E) (𝓥 : View 
   begins zero p h = held (opening-starts 𝓦 A Q p h)
   begins (suc b) p h = begin h
 
-  pub run-walk : Worthy 𝓦 𝓥 → {b e len : ℕ} {w : W} → len ≤ high → Run 𝓦 A 𝓥 b e len w → Arrives 𝓦 A Q 𝓥 high e len w
+  pub run-walk : Worthy 𝓦 𝓥 → {b e len : ℕ} {w : W} → len ≤ high → Run 𝓦 A 𝓥 b e len w → Arrives 𝓦 A 𝓥 high (opening 𝓦 A Q) e len w
   run-walk worthy {b} {e} {len} {w} h u =
       let k = of-together 𝓦 (gains A 𝓥 true b (u .steps)) w (sym (run-gains 𝓦 𝓥 worthy A (u .steps) b) ∙ u .is-worth) in
-      let a : Arrives 𝓦 A Q 𝓥 high (b + total (u .steps)) (0 + total (u .steps)) (combineAll 𝓦 (k .0)) =
+      let a : Arrives 𝓦 A 𝓥 high (opening 𝓦 A Q) (b + total (u .steps)) (0 + total (u .steps)) (combineAll 𝓦 (k .0)) =
       arrives (u .steps) (k .0) (begins b (u .first) (u .first-starts)) (record { goes = u .goes; may-end = tt; gained = k .1 }) (omega arith) in
       let t : b + total (u .steps) ≡ e = omega arith in
       let l : 0 + total (u .steps) ≡ len = omega arith in

@@ -5,7 +5,9 @@ use lib.Dec.{T}
 use Rattle.weighting.specs.Weighting.{Weighting}
 use Rattle.walks.specs.Automaton.{Automaton, View, State, Same}
 use Rattle.walks.specs.Holding.{Holding, heldAt, holdState}
-use Rattle.walks.specs.Claims.{Arrives, RunsAreWalks, RunsAreHeldWalks}
+use Rattle.walks.specs.Tables.{opening}
+use Rattle.walks.specs.Reports.{Arrives}
+use Rattle.walks.specs.Claims.{RunsAreWalks, RunsAreHeldWalks}
 use Rattle.walks.proofs.WalkToRun.{walk-run}
 use Rattle.walks.proofs.RunToWalk.{run-walk}
 use Rattle.walks.proofs.Held.{seen, seen-back}
@@ -16,7 +18,7 @@ module _ {W C E : Type 0} (𝓦 : Weighting W) (A : Automaton C E) (Q : Same C) 
       (λ k. run-walk 𝓦 A 𝓥 Q high worthy h (k .1), λ a. walk-run 𝓦 A 𝓥 Q high worthy o a)
 
   module _ (hold : C → C) (h : Holding A hold) {n len : ℕ} {w : W} where
-    to-held : Arrives 𝓦 A Q 𝓥 high n len w → Arrives 𝓦 (heldAt hold A) Q 𝓥 high n len w
+    to-held : Arrives 𝓦 A 𝓥 high (opening 𝓦 A Q) n len w → Arrives 𝓦 (heldAt hold A) 𝓥 high (opening 𝓦 (heldAt hold A) Q) n len w
     to-held a =
         record {
           there = holdState hold (a .there);
@@ -26,7 +28,7 @@ module _ {W C E : Type 0} (𝓦 : Weighting W) (A : Automaton C E) (Q : Same C) 
           reached = seen A hold h 𝓦 Q 𝓥 high (a .reached);
         }
 
-    of-held : Arrives 𝓦 (heldAt hold A) Q 𝓥 high n len w → Arrives 𝓦 A Q 𝓥 high n len w
+    of-held : Arrives 𝓦 (heldAt hold A) 𝓥 high (opening 𝓦 (heldAt hold A) Q) n len w → Arrives 𝓦 A 𝓥 high (opening 𝓦 A Q) n len w
     of-held a =
         let k = seen-back A hold h 𝓦 Q 𝓥 high (a .reached) in
         record {

@@ -11,7 +11,8 @@ use Rattle.walks.specs.Automaton.{Automaton, View, State, entering, stay
 use Rattle.walks.specs.Walks.{Takes, Move, stays, takes, Reach, held, begin, move}
 use Rattle.walks.specs.Runs.{Step, Leg, Goes, total, nonEmpty, together, Run}
 use Rattle.walks.specs.Tables.{opening}
-use Rattle.walks.specs.Claims.{Worthy, Arrives}
+use Rattle.walks.specs.Reports.{Arrives}
+use Rattle.walks.specs.Claims.{Worthy}
 use Rattle.walks.proofs.States.{opening-holds}
 use Rattle.walks.proofs.Gains.{gains, run-gains, gains-longer, gains-one}
 use Rattle.walks.proofs.Rest.{Rest}
@@ -109,7 +110,7 @@ module _ {W C E : Type 0} (𝓦 : Weighting W) (A : Automaton C E) (𝓥 : View 
     whole (begin {n = n} {p = p} h) = whole-begin (suc n) p h
     whole (move r gain-is m) = whole-move (whole r) gain-is m
 
-    pub walk-run : Worthy 𝓦 𝓥 → {n len : ℕ} {w : W} → 1 ≤ len → Arrives 𝓦 A Q 𝓥 high n len w → (b : ℕ) × Run 𝓦 A 𝓥 b n len w
+    pub walk-run : Worthy 𝓦 𝓥 → {n len : ℕ} {w : W} → 1 ≤ len → Arrives 𝓦 A 𝓥 high (opening 𝓦 A Q) n len w → (b : ℕ) × Run 𝓦 A 𝓥 b n len w
     unfolding gains combineFrom
     walk-run worthy {n} {len} {w} o a =
         go (whole (a .reached) [] [] (record { goes = a .is-end; may-end = rw (a .just-entered) tt; gained = refl }))

@@ -1,11 +1,11 @@
 -- What is claimed, and proved in proofs/: for an arbitrary weighting, automaton and view of ticks.
 use mathlib.Core.Path.{_≡_}
-use mathlib.Core.Bool.{Bool, true}
+use mathlib.Core.Bool.{Bool, cond}
 use mathlib.Core.Logic.{_↔_}
 use mathlib.Core.Option.{none, some}
 use mathlib.Core.List.{List, List·Memᴰ}
 use Prim.Native.Nat.{ℕ, suc, _+_, _≤_, _<_}
-use lib.Dec.{T}
+use lib.Dec.{T, eqb}
 use Rattle.weighting.specs.Order.{IsBest}
 use Rattle.weighting.specs.Weighting.{Weighting}
 use Rattle.weighting.specs.Shortest.{shortest}
@@ -14,26 +14,18 @@ use Rattle.walks.specs.Walks.{Reach}
 use Rattle.walks.specs.Runs.{Run}
 use Rattle.walks.specs.Holding.{Holding, heldAt, holdState}
 use Rattle.walks.specs.Tables.{Table, opening, offers, offered, next, tableAt, Closed, Within}
-use Rattle.walks.specs.Reports.{report, reportAt, Wanted, Reported}
+use Rattle.walks.specs.Reports.{report, reportAt, Arrives, MayEnd, Wanted, Reported}
 
 -- Every gain of the view is a worth.
 abbrev pub Worthy : {W : Type 0} → Weighting W → View W → Type 0
 Worthy {W} 𝓦 𝓥 = (t : ℕ) (f : Bool) (p : ℕ) (g : W) → 𝓥 t f p ≡ some g → T (𝓦 .worth g)
-
--- By time n, from the opening, an end place has just been entered, with this length and worth.
-pub record Arrives {W C E : Type 0} (𝓦 : Weighting W) (A : Automaton C E) (Q : Same C) (𝓥 : View W) (high n len : ℕ) (w : W) : Type 0 where
-  pub there : State C
-  pub len-is : there .len ≡ len
-  pub just-entered : there .entered ≡ true
-  pub is-end : T (A .isEnd (there .place))
-  pub reached : Reach 𝓦 A 𝓥 high (opening 𝓦 A Q) n there w
 
 module _ {W C E : Type 0} (𝓦 : Weighting W) (A : Automaton C E) (Q : Same C) (𝓥 : View W) (high : ℕ) where
   -- 1. Runs are walks, with the same worth and length.
   abbrev pub RunsAreWalks : Type 0
   RunsAreWalks =
       Worthy 𝓦 𝓥 → (n len : ℕ) (w : W) → 1 ≤ len → len ≤ high
-      → ((b : ℕ) × Run 𝓦 A 𝓥 b n len w) ↔ Arrives 𝓦 A Q 𝓥 high n len w
+      → ((b : ℕ) × Run 𝓦 A 𝓥 b n len w) ↔ Arrives 𝓦 A 𝓥 high (opening 𝓦 A Q) n len w
 
   -- 2. An automaton that holds the clocks reaches the same states, with their clocks held, and with the same worths. So runs
   -- are the walks of this automaton, too.
@@ -46,13 +38,19 @@ module _ {W C E : Type 0} (𝓦 : Weighting W) (A : Automaton C E) (Q : Same C) 
   abbrev pub RunsAreHeldWalks : Type 0
   RunsAreHeldWalks =
       Worthy 𝓦 𝓥 → (hold : C → C) → Holding A hold → (n len : ℕ) (w : W) → 1 ≤ len → len ≤ high
-      → ((b : ℕ) × Run 𝓦 A 𝓥 b n len w) ↔ Arrives 𝓦 (heldAt hold A) Q 𝓥 high n len w
+      → ((b : ℕ) × Run 𝓦 A 𝓥 b n len w) ↔ Arrives 𝓦 (heldAt hold A) 𝓥 high (opening 𝓦 (heldAt hold A) Q) n len w
 
   -- 3. From any table, a cell is the best of what is reached there.
   abbrev pub TableBest : Type 0
   TableBest =
       (all : List (State C)) → Closed A high all → (T₀ : Table W C) → Within all T₀ → (n : ℕ) (s : State C)
       → IsBest (𝓦 .order) (Reach 𝓦 A 𝓥 high T₀ n s) (tableAt 𝓦 A Q high all 𝓥 T₀ n s)
+
+  -- And its report is the best of what may end there, the shortest among equals.
+  abbrev pub ReportsReached : Type 0
+  ReportsReached =
+      (all : List (State C)) → Closed A high all → (T₀ : Table W C) → Within all T₀ → (low n : ℕ)
+      → IsBest (shortest (𝓦 .order)) (MayEnd 𝓦 A 𝓥 low high T₀ n) (report 𝓦 A low all (tableAt 𝓦 A Q high all 𝓥 T₀ n))
 
   -- 4. The table with held clocks reports the best of the runs with plain ones, the shortest among equals.
   abbrev pub ReportsBest : Type 0
@@ -66,9 +64,17 @@ module _ {W C E : Type 0} (𝓦 : Weighting W) (A : Automaton C E) (Q : Same C) 
   ReportsSay =
       Worthy 𝓦 𝓥 → (hold : C → C) → Holding A hold → (all : List (State C)) → Closed (heldAt hold A) high all
       → (low : ℕ) → 1 ≤ low → (n : ℕ)
-      → Reported 𝓦 A 𝓥 low high n (reportAt 𝓦 (heldAt hold A) Q high all low 𝓥 n)
+      → Reported 𝓦 (Wanted 𝓦 A 𝓥 low high n) (reportAt 𝓦 (heldAt hold A) Q high all low 𝓥 n)
 
 module _ {W C E : Type 0} (𝓦 : Weighting W) (A : Automaton C E) (Q : Same C) (high : ℕ) (all : List (State C)) where
+  -- "At each time, a start place with length 0, stage 0 and clocks 0 holds the empty run's worth": to write the cells of
+  -- length 0 anew, as an opening does, changes no table that ticks made of an opening.
+  abbrev pub EmptyRunHeld : Type 0
+  EmptyRunHeld =
+      (𝓥 : View W) (n : ℕ) (s : State C)
+      → cond (eqb (s .len) 0) (opening 𝓦 A Q s) (tableAt 𝓦 A Q high all 𝓥 (opening 𝓦 A Q) n s)
+      ≡ tableAt 𝓦 A Q high all 𝓥 (opening 𝓦 A Q) n s
+
   -- 5. Cutting the ticks into calls changes nothing: a call that finds the table after m ticks, and sees n ticks more by a
   -- view of its own, leaves the table after m + n ticks.
   abbrev pub Cut : Type 0

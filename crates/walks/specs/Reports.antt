@@ -1,6 +1,7 @@
 -- Reports: "the best score among the runs with that end whose length is at least the window's low and at most its high,
 -- and the least length among those with that score".
-use mathlib.Core.Bool.{Bool, cond, _&&_}
+use mathlib.Core.Path.{_≡_}
+use mathlib.Core.Bool.{Bool, true, cond, _&&_}
 use mathlib.Core.Option.{Option, none, some}
 use mathlib.Core.List.{List, [], _∷_, _++_}
 use Prim.Native.Nat.{ℕ, _≤_}
@@ -9,6 +10,7 @@ use Rattle.weighting.specs.Order.{bestOf}
 use Rattle.weighting.specs.Weighting.{Weighting}
 use Rattle.weighting.specs.Shortest.{shortest}
 use Rattle.walks.specs.Automaton.{Automaton, View, State, Same}
+use Rattle.walks.specs.Walks.{Reach}
 use Rattle.walks.specs.Runs.{Run}
 use Rattle.walks.specs.Tables.{Table, opening, tableAt}
 
@@ -34,14 +36,27 @@ report 𝓦 A low all U = bestOf (shortest (𝓦 .order)) (entries A low U all)
 abbrev pub reportAt : {W C E : Type 0} → Weighting W → Automaton C E → Same C → ℕ → List (State C) → ℕ → View W → ℕ → Option (W × ℕ)
 reportAt 𝓦 A Q high all low 𝓥 n = report 𝓦 A low all (tableAt 𝓦 A Q high all 𝓥 (opening 𝓦 A Q) n)
 
--- A run that the report at time n speaks of, by its worth and length: it ends at n, and its length is in the window.
+-- n ticks after the table T₀ an end place has just been entered, with this length and worth.
+pub record Arrives {W C E : Type 0} (𝓦 : Weighting W) (A : Automaton C E) (𝓥 : View W) (high : ℕ) (T₀ : Table W C) (n len : ℕ) (w : W) : Type 0 where
+  pub there : State C
+  pub len-is : there .len ≡ len
+  pub just-entered : there .entered ≡ true
+  pub is-end : T (A .isEnd (there .place))
+  pub reached : Reach 𝓦 A 𝓥 high T₀ n there w
+
+-- What the report n ticks after T₀ speaks of, by its worth and length: it arrives then, and its length is in the window.
+abbrev pub MayEnd : {W C E : Type 0} → Weighting W → Automaton C E → View W → ℕ → ℕ → Table W C → ℕ → W × ℕ → Type 0
+MayEnd 𝓦 A 𝓥 low high T₀ n r = (low ≤ r .1) × (r .1 ≤ high) × Arrives 𝓦 A 𝓥 high T₀ n (r .1) (r .0)
+
+-- From the opening, a run that the report at time n speaks of: it ends at n, and its length is in the window.
 abbrev pub Wanted : {W C E : Type 0} → Weighting W → Automaton C E → View W → ℕ → ℕ → ℕ → W × ℕ → Type 0
 Wanted 𝓦 A 𝓥 low high n r = (low ≤ r .1) × (r .1 ≤ high) × ((b : ℕ) × Run 𝓦 A 𝓥 b n (r .1) (r .0))
 
--- What a report says: a run attains it; none is better; none as good is shorter. And without one there is no run.
-abbrev pub Reported : {W C E : Type 0} → Weighting W → Automaton C E → View W → ℕ → ℕ → ℕ → Option (W × ℕ) → Type 0
-Reported {W} 𝓦 A 𝓥 low high n none = (r : W × ℕ) → ¬ Wanted 𝓦 A 𝓥 low high n r
-Reported {W} 𝓦 A 𝓥 low high n (some a) =
-    Wanted 𝓦 A 𝓥 low high n a
-    × ((r : W × ℕ) → Wanted 𝓦 A 𝓥 low high n r → T (𝓦 .order .atLeast (a .0) (r .0)))
-    × ((m : ℕ) → Wanted 𝓦 A 𝓥 low high n (a .0, m) → a .1 ≤ m)
+-- What a report says of those that it speaks of: one of them attains it; none is better; none as good is shorter. And without
+-- one there is none.
+abbrev pub Reported : {W : Type 0} → Weighting W → (Among : W × ℕ → Type 0) → Option (W × ℕ) → Type 0
+Reported {W} 𝓦 Among none = (r : W × ℕ) → ¬ Among r
+Reported {W} 𝓦 Among (some a) =
+    Among a
+    × ((r : W × ℕ) → Among r → T (𝓦 .order .atLeast (a .0) (r .0)))
+    × ((m : ℕ) → Among (a .0, m) → a .1 ≤ m)

@@ -8,7 +8,7 @@ use borrow.Author.Needs.{needs}
 use lib.ListN.{length}
 use Rattle.record.specs.Record.{bookOf}
 use Rattle.monitor.proofs.Demand.{open-parts}
-use Rattle.feed_checks.proofs.Accepted.{done, refused-for}
+use Rattle.monitor.proofs.Accepted.{done, refused-for}
 use Rattle.pattern.specs.declared.Pattern.{Pattern}
 use Rattle.best.specs.declared.Found.{Found}
 use Rattle.best.specs.declared.Found.the-variants.{Refused}

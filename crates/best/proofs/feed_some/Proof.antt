@@ -1,7 +1,7 @@
 -- One feed, and its reports.
 use mathlib.Core.Path.{_∙_}
 use borrow.Author.Needs.{needs}
-use Rattle.feed_checks.proofs.Accepted.{fed}
+use Rattle.monitor.proofs.Accepted.{fed}
 use Rattle.best.proofs.feed_some.Statement.{statement}
 use Rattle.best.proofs.feed_some.Tie as tie
 

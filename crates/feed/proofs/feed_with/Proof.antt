@@ -4,7 +4,7 @@ use mathlib.Core.Option.{none, some}
 use borrow.Author.Needs.{needs}
 use lib.ListN.{length}
 use Rattle.monitor.specs.Feed.{feedCause}
-use Rattle.feed_checks.proofs.Accepted.{Fed, done, refused-for, fed, any-second}
+use Rattle.monitor.proofs.Accepted.{Fed, done, refused-for, fed, any-second}
 use Rattle.feed.proofs.feed_with.Statement.{statement}
 use Rattle.feed.proofs.feed_with.Tie as tie
 

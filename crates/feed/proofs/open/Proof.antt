@@ -3,7 +3,7 @@ use mathlib.Core.Option.{none, some}
 use lib.ListN.{length}
 use Rattle.monitor.specs.Open.{answerOf, answerNumber, openRefusal}
 use Rattle.monitor.proofs.Answers.{open-numbers}
-use Rattle.feed_checks.proofs.Accepted.{done, refused-for, opened}
+use Rattle.monitor.proofs.Accepted.{done, refused-for, opened}
 use borrow.Author.Needs.{needs}
 use Rattle.feed.proofs.open.Statement.{statement}
 use Rattle.feed.proofs.open.Tie as tie

@@ -18,7 +18,7 @@ use Rattle.monitor.specs.Open.{answerOf, firstCause, tableTooShort}
 use Rattle.monitor.specs.Feed.{pieceBroken, tooManyTicks, cellsBroken, reportsTooShort, feedCause}
 use Rattle.monitor.proofs.CellLaws.{laid, cells-are}
 use Rattle.feed_checks.proofs.Counts.{counted, refused}
-use Rattle.feed_checks.proofs.Accepted.{long}
+use Rattle.monitor.proofs.Accepted.{long}
 use Rattle.feed_checks.proofs.feed_refusal.Statement.{statement}
 use Rattle.feed_checks.proofs.feed_refusal.Tie as tie
 

@@ -6,7 +6,7 @@ use borrow.Author.Needs.{needs}
 use lib.ListN.{length}
 use Rattle.pattern.proofs.SoundLaws.{parts}
 use Rattle.monitor.specs.Cells.{written}
-use Rattle.feed_checks.proofs.Accepted.{Fed, fed}
+use Rattle.monitor.proofs.Accepted.{Fed, fed}
 use Rattle.feed_moves.specs.Piece.{tableIn, scoresIn, lengthsIn}
 use Rattle.feed_moves.proofs.feed_piece.Statement.{statement}
 use Rattle.feed_moves.proofs.feed_piece.Tie as tie

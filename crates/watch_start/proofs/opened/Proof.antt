@@ -5,7 +5,7 @@ use borrow.Author.Needs.{needs}
 use lib.ListN.{length}
 use Rattle.monitor.specs.declared.After.{After}
 use Rattle.monitor.specs.Open.{openRefusal}
-use Rattle.feed_checks.proofs.Accepted.{done, refused-for}
+use Rattle.monitor.proofs.Accepted.{done, refused-for}
 use Rattle.watch_start.proofs.opened.Statement.{statement}
 use Rattle.watch_start.proofs.opened.Tie as tie
 

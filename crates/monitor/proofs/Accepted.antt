@@ -1,10 +1,10 @@
 -- What an accepted call may go by: each check's outcome, from an answer that is `Done`.
 use Prim.Native.Nat.{ℕ, _+_, _≤_}
 use native.Mathlib.Omega.{arith}
-use mathlib.Core.Path.{_≡_, refl}
+use mathlib.Core.Path.{_≡_, refl, sym}
 use mathlib.Core.List.{List, [], _∷_}
-use mathlib.Core.Option.{Option, none, some}
-use mathlib.Core.Bool.{Bool, true, false, not, _&&_}
+use mathlib.Core.Option.{Option, none, some, Option·none-ne-some}
+use mathlib.Core.Bool.{Bool, true, false, not, _&&_, _||_}
 use borrow.Author.Tests.{leb-true, ltb-false, eqb-true, not-false, le-ltb}
 use lib.Dec.{eqb, leb, ltb}
 use lib.ListN.{length, take}
@@ -18,12 +18,24 @@ use Rattle.pattern.specs.Cells.{cellsNeeded}
 use Rattle.pattern.specs.Distance.{Sample}
 use Rattle.pattern.proofs.SoundLaws.{both}
 use Rattle.record.specs.Record.{valueInRange}
 use Rattle.monitor.specs.declared.State.{State}
 use Rattle.monitor.specs.declared.Answer.the-variants.{Done, Refused}
 use Rattle.monitor.specs.State.{stateSound}
-use Rattle.monitor.specs.Open.{answerOf, tableTooShort, openRefusal}
+use Rattle.monitor.specs.Open.{answerOf, firstCause, tableTooShort, openRefusal}
 use Rattle.monitor.specs.Feed.{cellFine, pieceBroken, tooManyTicks, cellsBroken, reportsTooShort, feedCause}
-use Rattle.monitor.proofs.Between.{no-cause, neither}
+
+-- ---- no cause
+
+pub no-cause : (x : Bool) (r : Refusal) (cs : List (Bool × Refusal)) → firstCause ((x, r) ∷ cs) ≡ none → (x ≡ false) × (firstCause cs ≡ none)
+no-cause true r cs e = absurd (Option·none-ne-some r (sym e))
+no-cause false r cs e = (refl, e)
+
+pub neither : (x y : Bool) → x || y ≡ false → (x ≡ false) × (y ≡ false)
+neither true y e = (e, absurd (no e))
+  where
+    no : _≡_ {A = Bool} true false → ⊥
+    no e = let z : _≡_ {A = ℕ} 0 1 = cc in omega arith
+neither false y e = (refl, e)
 
 -- ---- an answer says whether there was a cause
 

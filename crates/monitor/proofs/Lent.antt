@@ -1,0 +1,107 @@
+-- What feeding makes of any lent table: tables of what is reached from its cells.
+use Prim.Native.Nat.{ℕ, zero, suc, _+_, _<_}
+use native.Mathlib.Omega.{arith}
+use mathlib.Core.Path.{_≡_, refl, sym, ap, subst, _∙_}
+use mathlib.Core.Logic.{_⊎_}
+use mathlib.Core.List.{List}
+use mathlib.Core.Option.{Option, none}
+use mathlib.Core.Bool.{not}
+use lib.ListN.{length, drop, getD}
+use lib.IntN.{ℤ, pos}
+use Rattle.weighting.specs.Order.{IsBest}
+use Rattle.weighting.specs.Weightings.{weightingOf}
+use Rattle.weighting.specs.Cell.{mark, cellOf, heldIn}
+use Rattle.weighting.proofs.Cell.{NoMark, heldIn-cellOf, small-no-mark}
+use Rattle.pattern.specs.declared.Pattern.{Pattern}
+use Rattle.pattern.specs.declared.Refusal.{Refusal}
+use Rattle.pattern.specs.Clocks.{Clocks}
+use Rattle.pattern.specs.Cells.{cellsNeeded}
+use Rattle.pattern.specs.Distance.{Sample}
+use Rattle.pattern.proofs.SoundLaws.{parts}
+use Rattle.record.specs.Joined.{sameSample}
+use Rattle.record.proofs.JoinedLaws.{same-self}
+use Rattle.walks.specs.Tables.{Table, next}
+use Rattle.walks.proofs.TableBest.{table-best}
+use Rattle.walks.proofs.Entries.{reports-reached}
+use Rattle.book.specs.Automaton.{sameClocks, heldAutomaton}
+use Rattle.monitor.specs.declared.State.{State}
+use Rattle.monitor.specs.Cells.{stateAt, indexOf, cellStates, heldBy, written}
+use Rattle.monitor.specs.Tick.{ticksLater, reportOf}
+use Rattle.monitor.specs.Open.{unlessRefused}
+use Rattle.monitor.specs.Feed.{Call, feedRefusal, isNew, pieceView, tableAfter, reportAfter, feedFirst, feedScores, feedLengths}
+use Rattle.monitor.specs.Demand.{BestAmong, NoneAmong}
+use Rattle.monitor.specs.Lent.{CellsSayWorths, valuesBefore, callView, Reached, Ending, LentTablesFed}
+use Rattle.monitor.proofs.Numbers.{made-front}
+use Rattle.monitor.proofs.CellLaws.{closed, celled-at, in-cells}
+use Rattle.monitor.proofs.Sizes.{tick-sized, lent-sized}
+use Rattle.monitor.proofs.Written.{cell-is, only-cells-hold, held-within, held-low}
+use Rattle.monitor.proofs.Accepted.{Fed, fed}
+use Rattle.monitor.proofs.Reports.{score-told, length-told, best-said}
+
+pub cells-say-worths : CellsSayWorths
+cells-say-worths p sound t =
+    record {
+      each = cell-is p sound t;
+      noOther = λ x w e. let k = only-cells-hold p sound t x w e in (indexOf p x, k .0, k .1);
+    }
+
+-- the view of the piece's ticks, by what each is compared with
+view-is : (p : Pattern) (s : State) (vs : Sample) (i : ℕ) → pieceView p (isNew p s vs) vs i ≡ callView p s vs i
+unfolding pieceView
+view-is p s vs zero = refl
+view-is p s vs (suc i) = rw (same-self vs)
+
+module _ (p : Pattern) (s : State) (t u : List ℤ) (c : Call) (given : feedRefusal p s t u c ≡ none) where
+  abbrev vs : Sample
+  vs = c .values
+
+  ok : Fed p s t (length u) (c .duration) vs (length (c .scores)) (length (c .lengths))
+  ok = fed p s t (length u) (c .duration) vs (length (c .scores)) (length (c .lengths)) given
+
+  -- the table n ticks into the call
+  abbrev table : ℕ → Table ℤ Clocks
+  table n = ticksLater p (callView p s vs) (heldBy p t) n
+
+  table-is : (n : ℕ) → tableAfter p s t vs n ≡ table n
+  table-is zero = refl
+  table-is (suc n) = λ i. next (weightingOf (p .weighing)) (heldAutomaton p) sameClocks (p .high) (cellStates p) (view-is p s vs n i) (table-is n i)
+
+  -- ---- cells
+
+  no-mark : (n i : ℕ) → i < cellsNeeded p → NoMark (table n (stateAt p i))
+  no-mark n i l e =
+      let a = celled-at p (ok .sound) i l in
+      let low = a .low in
+      let high = parts p (ok .sound) .shortHigh in
+      let h = lent-sized p (ok .sound) (callView p s vs) (λ j f k g q. tick-sized p (ok .sound) vs (ok .piece .values) (not (sameSample vs (valuesBefore p s vs j))) f k g q)
+      (heldBy p t) (held-low p (ok .sound) t (ok .tables .first) (ok .cells)) n (stateAt p i) mark (in-cells p (ok .sound) (stateAt p i) a) e in
+      small-no-mark mark (omega arith) refl
+
+  cell-left : (i : ℕ) → i < cellsNeeded p → heldIn (getD (feedFirst p s t u c) i mark) ≡ table (c .duration) (stateAt p i)
+  unfolding written
+  cell-left i l =
+      ap (λ (o : Option Refusal). heldIn (getD (unlessRefused o (written p (tableAfter p s t vs (c .duration)) t) t) i mark)) given
+      ∙ ap heldIn (made-front (λ j. cellOf (tableAfter p s t vs (c .duration) (stateAt p j))) (cellsNeeded p) i mark (drop (cellsNeeded p) t) l)
+      ∙ ap (λ (U : Table ℤ Clocks). heldIn (cellOf (U (stateAt p i)))) (table-is (c .duration))
+      ∙ heldIn-cellOf (table (c .duration) (stateAt p i)) (no-mark (c .duration) i l)
+
+  cell-best : (i : ℕ) → i < cellsNeeded p → IsBest (weightingOf (p .weighing) .order) (Reached p s t vs (c .duration) (stateAt p i)) (heldIn (getD (feedFirst p s t u c) i mark))
+  cell-best i l =
+      subst (IsBest (weightingOf (p .weighing) .order) (Reached p s t vs (c .duration) (stateAt p i))) (sym (cell-left i l))
+      (table-best (weightingOf (p .weighing)) (heldAutomaton p) sameClocks (callView p s vs) (p .high) (cellStates p) (closed p (ok .sound)) (heldBy p t) (held-within p (ok .sound) t) (c .duration) (stateAt p i))
+
+  -- ---- reports
+
+  report-is : (i : ℕ) → reportAfter p s t vs i ≡ reportOf p (table (i + 1))
+  report-is i = let e : suc i ≡ i + 1 = omega arith in ap (reportOf p) (table-is (suc i)) ∙ ap (λ (n : ℕ). reportOf p (table n)) e
+
+  report-best : (i : ℕ) → i < c .duration
+      → BestAmong p (Ending p s t vs (i + 1)) (getD (feedScores p s t u c) i (pos 0)) (getD (feedLengths p s t u c) i 0)
+      ⊎ NoneAmong (Ending p s t vs (i + 1)) (getD (feedScores p s t u c) i (pos 0)) (getD (feedLengths p s t u c) i 0)
+  report-best i l =
+      rw (score-told p s t u c given i l, length-told p s t u c given i l, report-is i)
+      (best-said p (Ending p s t vs (i + 1)) (reportOf p (table (i + 1)))
+      (reports-reached (weightingOf (p .weighing)) (heldAutomaton p) sameClocks (callView p s vs) (p .high) (cellStates p) (closed p (ok .sound)) (heldBy p t) (held-within p (ok .sound) t) (p .low) (i + 1)))
+
+pub lent-tables-fed : LentTablesFed
+lent-tables-fed p s t u c given = record { cells = cell-best p s t u c given; reports = report-best p s t u c given }

@@ -1,0 +1,83 @@
+-- What feeding makes of any first table, also of one that no monitor wrote (document 01, 'Monitor tables'). Proved in
+-- proofs/Lent.antt. Demand 3 and what the tables hold between calls speak of tables that an opening and feeds made. In those the
+-- empty run's worth stands at length 0 before every call, and at ticks 0 no run is staying, so that they leave open whether
+-- feeding writes that worth before a call's first tick, and what the first tick of all is compared with.
+use Prim.Native.Nat.{ℕ, zero, suc, _+_, _<_}
+use mathlib.Core.Path.{_≡_}
+use mathlib.Core.Logic.{_⊎_}
+use mathlib.Core.List.{List}
+use mathlib.Core.Option.{none, some}
+use mathlib.Core.Bool.{true, not}
+use lib.ListN.{getD}
+use lib.IntN.{ℤ, pos}
+use Rattle.weighting.specs.Order.{IsBest}
+use Rattle.weighting.specs.Weightings.{weightingOf}
+use Rattle.weighting.specs.Cell.{mark, heldIn}
+use Rattle.pattern.specs.declared.Pattern.{Pattern}
+use Rattle.pattern.specs.Sound.{soundOf}
+use Rattle.pattern.specs.Clocks.{Clocks}
+use Rattle.pattern.specs.Cells.{cellsNeeded}
+use Rattle.pattern.specs.Distance.{Sample}
+use Rattle.record.specs.Joined.{sameSample}
+use Rattle.walks.specs.Automaton.{State as RunState, View}
+use Rattle.walks.specs.Walks.{Reach}
+use Rattle.walks.specs.Reports.{MayEnd}
+use Rattle.book.specs.Automaton.{heldAutomaton}
+use Rattle.book.specs.View.{tickView}
+use Rattle.monitor.specs.declared.State.{State}
+use Rattle.monitor.specs.Cells.{stateAt, heldBy}
+use Rattle.monitor.specs.State.{lastSample}
+use Rattle.monitor.specs.Feed.{Call, feedRefusal, feedFirst, feedScores, feedLengths}
+use Rattle.monitor.specs.Demand.{BestAmong, NoneAmong}
+
+-- ---- the lent cells, "as the worths they say, even if no monitor wrote them"
+
+-- Theorem: the state of a needed cell holds what the cell says, and no other state holds anything.
+pub record SaidByCells (p : Pattern) (t : List ℤ) : Type 0 where
+  pub each : (i : ℕ) → i < cellsNeeded p → heldBy p t (stateAt p i) ≡ heldIn (getD t i mark)
+  pub noOther : (x : RunState Clocks) (w : ℤ) → heldBy p t x ≡ some w → (i : ℕ) × (i < cellsNeeded p) × (stateAt p i ≡ x)
+
+abbrev pub CellsSayWorths : Type 0
+CellsSayWorths = (p : Pattern) → soundOf p ≡ true → (t : List ℤ) → SaidByCells p t
+
+-- ---- the ticks of a call
+
+-- The values of the tick before: "at a call's first tick these are the state's last values, at ticks 0 too", and at a later one
+-- the piece's own.
+abbrev pub valuesBefore : Pattern → State → Sample → (tick : ℕ) → Sample
+valuesBefore p s vs zero = lastSample p s
+valuesBefore p s vs (suc i) = vs
+
+-- "a staying cell meets a new piece exactly when the tick's values differ from those of the tick before"
+abbrev pub callView : Pattern → State → Sample → View ℤ
+callView p s vs i = tickView p vs (not (sameSample vs (valuesBefore p s vs i)))
+
+-- What is reached n ticks into the call, by its state and worth. By `Reach`, before the first tick it is what the lent cells hold
+-- and nothing else; after each tick it is what moved from there, and the empty run in every start place.
+abbrev pub Reached : Pattern → State → (first : List ℤ) → Sample → (n : ℕ) → RunState Clocks → ℤ → Type 0
+Reached p s t vs n x w =
+    Reach (weightingOf (p .weighing)) (heldAutomaton p) (callView p s vs) (p .high) (heldBy p t) n x w
+
+-- Of that, what may end there, by its length and worth: just entered, in an end place, its length in the window.
+abbrev pub Ending : Pattern → State → (first : List ℤ) → Sample → (n len : ℕ) → ℤ → Type 0
+Ending p s t vs n len w =
+    MayEnd (weightingOf (p .weighing)) (heldAutomaton p) (callView p s vs) (p .low) (p .high) (heldBy p t) n (w, len)
+
+-- ---- the call
+
+-- What an accepted feed leaves in the lent slices. The second table is named in none of what is reached: "nothing depends on what
+-- the second held".
+pub record FedFrom (p : Pattern) (s : State) (t u : List ℤ) (c : Call) : Type 0 where
+  -- a needed cell of the first table: the best worth that is reached in its state; the mark, which `heldIn` reads as none,
+  -- exactly if nothing is. (A shorter call says so of the cells within a longer one.)
+  pub cells : (i : ℕ) → i < cellsNeeded p
+      → IsBest (weightingOf (p .weighing) .order) (Reached p s t (c .values) (c .duration) (stateAt p i)) (heldIn (getD (feedFirst p s t u c) i mark))
+  -- report place i: the best and shortest of what may end after i + 1 ticks; 0 and 0 exactly if nothing may
+  pub reports : (i : ℕ) → i < c .duration
+      → BestAmong p (Ending p s t (c .values) (i + 1)) (getD (feedScores p s t u c) i (pos 0)) (getD (feedLengths p s t u c) i 0)
+      ⊎ NoneAmong (Ending p s t (c .values) (i + 1)) (getD (feedScores p s t u c) i (pos 0)) (getD (feedLengths p s t u c) i 0)
+
+-- Theorem: of every pattern, state, two tables and piece, wherever feeding is not refused.
+abbrev pub LentTablesFed : Type 0
+LentTablesFed =
+    (p : Pattern) (s : State) (t u : List ℤ) (c : Call) → feedRefusal p s t u c ≡ none → FedFrom p s t u c
