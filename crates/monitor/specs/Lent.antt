@@ -30,9 +30,10 @@ use Rattle.monitor.specs.State.{lastSample}
 use Rattle.monitor.specs.Feed.{Call, feedRefusal, feedFirst, feedScores, feedLengths}
 use Rattle.monitor.specs.Demand.{BestAmong, NoneAmong}
 
--- ---- the lent cells, "as the worths they say, even if no monitor wrote them"
+-- ---- the lent cells
 
--- Theorem: the state of a needed cell holds what the cell says, and no other state holds anything.
+-- Theorem: a lent cell is taken as the worth it says, whoever wrote it. The state of a needed cell holds what the cell says, and
+-- no other state holds anything.
 pub record SaidByCells (p : Pattern) (t : List ℤ) : Type 0 where
   pub each : (i : ℕ) → i < cellsNeeded p → heldBy p t (stateAt p i) ≡ heldIn (getD t i mark)
   pub noOther : (x : RunState Clocks) (w : ℤ) → heldBy p t x ≡ some w → (i : ℕ) × (i < cellsNeeded p) × (stateAt p i ≡ x)
@@ -42,13 +43,14 @@ CellsSayWorths = (p : Pattern) → soundOf p ≡ true → (t : List ℤ) → Sai
 
 -- ---- the ticks of a call
 
--- The values of the tick before: "at a call's first tick these are the state's last values, at ticks 0 too", and at a later one
+-- The values that a tick of the call is compared with: at the first the state's last values, "at ticks 0 too"; at a later one
 -- the piece's own.
 abbrev pub valuesBefore : Pattern → State → Sample → (tick : ℕ) → Sample
 valuesBefore p s vs zero = lastSample p s
 valuesBefore p s vs (suc i) = vs
 
--- "a staying cell meets a new piece exactly when the tick's values differ from those of the tick before"
+-- A tick brings a new piece exactly where its values differ from those. (What that means to a worth is said by `tickView`: in sum
+-- it counts for a cell that stays.)
 abbrev pub callView : Pattern → State → Sample → View ℤ
 callView p s vs i = tickView p vs (not (sameSample vs (valuesBefore p s vs i)))
 

@@ -67,8 +67,8 @@ module _ {W C E : Type 0} (𝓦 : Weighting W) (A : Automaton C E) (Q : Same C) 
       → Reported 𝓦 (Wanted 𝓦 A 𝓥 low high n) (reportAt 𝓦 (heldAt hold A) Q high all low 𝓥 n)
 
 module _ {W C E : Type 0} (𝓦 : Weighting W) (A : Automaton C E) (Q : Same C) (high : ℕ) (all : List (State C)) where
-  -- "At each time, a start place with length 0, stage 0 and clocks 0 holds the empty run's worth": to write the cells of
-  -- length 0 anew, as an opening does, changes no table that ticks made of an opening.
+  -- "At each time" the empty run's worth stands where an opening writes it: to write the cells of length 0 anew changes no table
+  -- that ticks made of an opening.
   abbrev pub EmptyRunHeld : Type 0
   EmptyRunHeld =
       (𝓥 : View W) (n : ℕ) (s : State C)
