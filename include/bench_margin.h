@@ -123,8 +123,8 @@ uint32_t monitor_open(const uint8_t *text, size_t length, int64_t *state, size_t
  * the time state[0] + i + 1 with state[0] as it was before the call: its score (the greatest in `margin`, the least in
  * `sum`), and how many ticks it took, the least if there are several. Its begin is that end less the length. Length 0, with
  * score 0, says that there is none. Places from `duration` on are left as they are.
- * This holds where each call since monitor_open had the text of the opening and found the state and the first table as the
- * call before it left them. The library keeps nothing, so it cannot notice another text.
+ * The reports are so where monitor_open was done, and every call since had the text of the opening and found the state and
+ * the first table as the call before it left them. The library keeps nothing, so it cannot notice another text.
  * The state and the first table are moved on. A cell of the first table that no call wrote is taken as the worth it says; the
  * order of the cells is, slowest first: length so far from 0 to the window's high, stage (0 just entered, 1 staying), place,
  * clock 0, clock 1 and on, each from 0 to its ceiling (document 01, "Monitor tables").

@@ -30,13 +30,13 @@ use Rattle.monitor.specs.Tick.{ticksLater, reportOf}
 use Rattle.monitor.specs.Open.{unlessRefused}
 use Rattle.monitor.specs.Feed.{Call, feedRefusal, isNew, pieceView, tableAfter, reportAfter, feedFirst, feedScores, feedLengths}
 use Rattle.monitor.specs.Demand.{BestAmong, NoneAmong}
-use Rattle.monitor.specs.Lent.{CellsSayWorths, valuesBefore, callView, Reached, Ending, LentTablesFed}
+use Rattle.monitor.specs.Lent.{CellsSayWorths, valuesBefore, callView, Reached, EndsThere, FedFrom, LentTablesFed}
 use Rattle.monitor.proofs.Numbers.{made-front}
 use Rattle.monitor.proofs.CellLaws.{closed, celled-at, in-cells}
 use Rattle.monitor.proofs.Sizes.{tick-sized, lent-sized}
-use Rattle.monitor.proofs.Written.{cell-is, only-cells-hold, held-within, held-low}
+use Rattle.monitor.proofs.Written.{written-length, cell-is, only-cells-hold, held-within, held-low}
 use Rattle.monitor.proofs.Accepted.{Fed, fed}
-use Rattle.monitor.proofs.Reports.{score-told, length-told, best-said}
+use Rattle.monitor.proofs.Reports.{score-told, length-told, scores-long, lengths-long, best-said}
 
 pub cells-say-worths : CellsSayWorths
 cells-say-worths p sound t =
@@ -96,12 +96,29 @@ module _ (p : Pattern) (s : State) (t u : List ℤ) (c : Call) (given : feedRefu
   report-is i = let e : suc i ≡ i + 1 = omega arith in ap (reportOf p) (table-is (suc i)) ∙ ap (λ (n : ℕ). reportOf p (table n)) e
 
   report-best : (i : ℕ) → i < c .duration
-      → BestAmong p (Ending p s t vs (i + 1)) (getD (feedScores p s t u c) i (pos 0)) (getD (feedLengths p s t u c) i 0)
-      ⊎ NoneAmong (Ending p s t vs (i + 1)) (getD (feedScores p s t u c) i (pos 0)) (getD (feedLengths p s t u c) i 0)
+      → BestAmong p (EndsThere p s t vs (i + 1)) (getD (feedScores p s t u c) i (pos 0)) (getD (feedLengths p s t u c) i 0)
+      ⊎ NoneAmong (EndsThere p s t vs (i + 1)) (getD (feedScores p s t u c) i (pos 0)) (getD (feedLengths p s t u c) i 0)
   report-best i l =
       rw (score-told p s t u c given i l, length-told p s t u c given i l, report-is i)
-      (best-said p (Ending p s t vs (i + 1)) (reportOf p (table (i + 1)))
+      (best-said p (EndsThere p s t vs (i + 1)) (reportOf p (table (i + 1)))
       (reports-reached (weightingOf (p .weighing)) (heldAutomaton p) sameClocks (callView p s vs) (p .high) (cellStates p) (closed p (ok .sound)) (heldBy p t) (held-within p (ok .sound) t) (p .low) (i + 1)))
 
+  -- ---- lengths
+
+  first-long : length (feedFirst p s t u c) ≡ length t
+  first-long =
+      ap (λ (o : Option Refusal). length (unlessRefused o (written p (tableAfter p s t vs (c .duration)) t) t)) given
+      ∙ written-length p (ok .sound) (tableAfter p s t vs (c .duration)) t (ok .tables .first)
+
+  left : FedFrom p s t u c
+  left =
+      record {
+        cells = cell-best;
+        reports = report-best;
+        firstLong = first-long;
+        scoresLong = scores-long p s t u c given (ok .scores);
+        lengthsLong = lengths-long p s t u c given (ok .lengths);
+      }
+
 pub lent-tables-fed : LentTablesFed
-lent-tables-fed p s t u c given = record { cells = cell-best p s t u c given; reports = report-best p s t u c given }
+lent-tables-fed p s t u c given = left p s t u c given

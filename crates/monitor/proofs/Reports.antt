@@ -1,10 +1,10 @@
 -- What the report places of an accepted call hold, and what a report says in document 01's words.
-use Prim.Native.Nat.{ℕ, _<_}
+use Prim.Native.Nat.{ℕ, _≤_, _<_}
 use mathlib.Core.Path.{_≡_, refl, ap, _∙_}
 use mathlib.Core.Logic.{_⊎_, inl, inr}
 use mathlib.Core.List.{List, _++_, map}
 use mathlib.Core.Option.{Option, none, some}
-use lib.ListN.{drop, getD}
+use lib.ListN.{length, drop, getD}
 use lib.IntN.{ℤ, pos}
 use Rattle.weighting.specs.Order.{IsBest}
 use Rattle.weighting.specs.Shortest.{shortest}
@@ -19,7 +19,7 @@ use Rattle.monitor.specs.Tick.{scoreIn, lengthIn}
 use Rattle.monitor.specs.Open.{unlessRefused}
 use Rattle.monitor.specs.Feed.{Call, feedRefusal, reportAfter, feedScores, feedLengths}
 use Rattle.monitor.specs.Demand.{BestAmong, NoneAmong}
-use Rattle.monitor.proofs.Numbers.{made-front}
+use Rattle.monitor.proofs.Numbers.{made-front, told-length}
 
 module _ (p : Pattern) (s : State) (t u : List ℤ) (c : Call) (given : feedRefusal p s t u c ≡ none) where
   pub scores-are : feedScores p s t u c ≡ map (λ i. scoreIn (reportAfter p s t (c .values) i)) (upTo (c .duration)) ++ drop (c .duration) (c .scores)
@@ -27,6 +27,13 @@ module _ (p : Pattern) (s : State) (t u : List ℤ) (c : Call) (given : feedRefu
 
   pub lengths-are : feedLengths p s t u c ≡ map (λ i. lengthIn (reportAfter p s t (c .values) i)) (upTo (c .duration)) ++ drop (c .duration) (c .lengths)
   lengths-are = ap (λ (o : Option Refusal). unlessRefused o (map (λ i. lengthIn (reportAfter p s t (c .values) i)) (upTo (c .duration)) ++ drop (c .duration) (c .lengths)) (c .lengths)) given
+
+  -- as long as before
+  pub scores-long : c .duration ≤ length (c .scores) → length (feedScores p s t u c) ≡ length (c .scores)
+  scores-long h = ap length scores-are ∙ told-length (λ i. scoreIn (reportAfter p s t (c .values) i)) (c .duration) (c .scores) h
+
+  pub lengths-long : c .duration ≤ length (c .lengths) → length (feedLengths p s t u c) ≡ length (c .lengths)
+  lengths-long h = ap length lengths-are ∙ told-length (λ i. lengthIn (reportAfter p s t (c .values) i)) (c .duration) (c .lengths) h
 
   pub score-told : (i : ℕ) → i < c .duration → getD (feedScores p s t u c) i (pos 0) ≡ scoreIn (reportAfter p s t (c .values) i)
   score-told i l =

@@ -46,24 +46,24 @@ pub record InWindow (p : Pattern) (b : Book) (end len : ℕ) (w : ℤ) : Type 0 
   pub low : p .low ≤ len
   pub high : len ≤ p .high
 
--- What a report place says of those that it speaks of, each by its length and worth: it holds the best score among them, "and
--- the least length among those with that score".
+-- A score and a length are the best of some: one of them has both; none has a better score; none with that score is shorter.
+-- `Among len w` says that one of them has the length len and the worth w.
 pub record BestAmong (p : Pattern) (Among : (len : ℕ) (w : ℤ) → Type 0) (score : ℤ) (len : ℕ) : Type 0 where
   pub attained : Among len score
   pub noneBetter : (m : ℕ) (w : ℤ) → Among m w → T (weightingOf (p .weighing) .order .atLeast score w)
   pub noneShorter : (m : ℕ) → Among m score → len ≤ m
 
--- Or "0 and 0", and there are none.
+-- Or there are none of them, and both are 0.
 pub record NoneAmong (Among : (len : ℕ) (w : ℤ) → Type 0) (score : ℤ) (len : ℕ) : Type 0 where
   pub noScore : score ≡ pos 0
   pub noLength : len ≡ 0
   pub none : (m : ℕ) (w : ℤ) → ¬ Among m w
 
--- "the best score among the runs with that end .., and the least length among those with that score"
+-- Of the runs in the window that have this end.
 abbrev pub BestRun : Pattern → Book → (end : ℕ) (score : ℤ) (len : ℕ) → Type 0
 BestRun p b end score len = BestAmong p (InWindow p b end) score len
 
--- "0 and 0 if there is no such run"
+-- There is no such run.
 abbrev pub NoRun : Pattern → Book → (end : ℕ) (score : ℤ) (len : ℕ) → Type 0
 NoRun p b end score len = NoneAmong (InWindow p b end) score len
 

@@ -8,7 +8,7 @@ use mathlib.Core.Logic.{_⊎_}
 use mathlib.Core.List.{List}
 use mathlib.Core.Option.{none, some}
 use mathlib.Core.Bool.{true, not}
-use lib.ListN.{getD}
+use lib.ListN.{length, getD}
 use lib.IntN.{ℤ, pos}
 use Rattle.weighting.specs.Order.{IsBest}
 use Rattle.weighting.specs.Weightings.{weightingOf}
@@ -61,23 +61,26 @@ Reached p s t vs n x w =
     Reach (weightingOf (p .weighing)) (heldAutomaton p) (callView p s vs) (p .high) (heldBy p t) n x w
 
 -- Of that, what may end there, by its length and worth: just entered, in an end place, its length in the window.
-abbrev pub Ending : Pattern → State → (first : List ℤ) → Sample → (n len : ℕ) → ℤ → Type 0
-Ending p s t vs n len w =
+abbrev pub EndsThere : Pattern → State → (first : List ℤ) → Sample → (n len : ℕ) → ℤ → Type 0
+EndsThere p s t vs n len w =
     MayEnd (weightingOf (p .weighing)) (heldAutomaton p) (callView p s vs) (p .low) (p .high) (heldBy p t) n (w, len)
 
 -- ---- the call
 
--- What an accepted feed leaves in the lent slices. The second table is named in none of what is reached: "nothing depends on what
--- the second held".
+-- What an accepted feed leaves in the needed cells of the first table and in the report places below its duration. What the second
+-- table held has no part in it.
 pub record FedFrom (p : Pattern) (s : State) (t u : List ℤ) (c : Call) : Type 0 where
-  -- a needed cell of the first table: the best worth that is reached in its state; the mark, which `heldIn` reads as none,
-  -- exactly if nothing is. (A shorter call says so of the cells within a longer one.)
+  -- a needed cell: the best worth that is reached in its state; the mark, which `heldIn` reads as none, exactly if nothing is.
+  -- (After n of the ticks the cells are what a call of n ticks would leave: this says it of every n.)
   pub cells : (i : ℕ) → i < cellsNeeded p
       → IsBest (weightingOf (p .weighing) .order) (Reached p s t (c .values) (c .duration) (stateAt p i)) (heldIn (getD (feedFirst p s t u c) i mark))
   -- report place i: the best and shortest of what may end after i + 1 ticks; 0 and 0 exactly if nothing may
   pub reports : (i : ℕ) → i < c .duration
-      → BestAmong p (Ending p s t (c .values) (i + 1)) (getD (feedScores p s t u c) i (pos 0)) (getD (feedLengths p s t u c) i 0)
-      ⊎ NoneAmong (Ending p s t (c .values) (i + 1)) (getD (feedScores p s t u c) i (pos 0)) (getD (feedLengths p s t u c) i 0)
+      → BestAmong p (EndsThere p s t (c .values) (i + 1)) (getD (feedScores p s t u c) i (pos 0)) (getD (feedLengths p s t u c) i 0)
+      ⊎ NoneAmong (EndsThere p s t (c .values) (i + 1)) (getD (feedScores p s t u c) i (pos 0)) (getD (feedLengths p s t u c) i 0)
+  pub firstLong : length (feedFirst p s t u c) ≡ length t
+  pub scoresLong : length (feedScores p s t u c) ≡ length (c .scores)
+  pub lengthsLong : length (feedLengths p s t u c) ≡ length (c .lengths)
 
 -- Theorem: of every pattern, state, two tables and piece, wherever feeding is not refused.
 abbrev pub LentTablesFed : Type 0

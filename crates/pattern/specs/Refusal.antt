@@ -4,8 +4,8 @@ use Rattle.pattern.specs.declared.Refusal.{Refusal}
 use Rattle.pattern.specs.declared.Refusal.the-variants.{TextTooLong, BrokenForm, OutOfRange, TooMany, UnknownIndex, OutputTooShort, UnsoundPattern, BrokenRecord, BrokenSteps, NotARun, TableTooShort, BrokenState, TooManyTicks, BrokenCell}
 
 abbrev pub numberOf : Refusal → ℕ
--- read a pattern: over 8,192 bytes; the form is broken; a number outside its range; a place, edge, test or guard too many;
--- an index that the pattern lacks, or a reset not above the one before it
+-- read a pattern: over 8,192 bytes; the form is broken; a number outside its range; a place, edge, test or guard too many; an
+-- index that the pattern lacks, or a reset not above the one before it. Of a record's text: over 16,384 bytes; the form is broken
 numberOf TextTooLong = 1
 numberOf BrokenForm = 2
 numberOf OutOfRange = 3
@@ -22,7 +22,8 @@ numberOf BrokenSteps = 9
 numberOf NotARun = 10
 -- open, feed, best of a record: a table shorter than the cells needed
 numberOf TableTooShort = 11
--- feed: a broken state; too many ticks in all; a needed cell that holds no worth in range
+-- feed: a broken state, which a slice too short for one is from C, in opening, too; too many ticks in all; a needed cell that
+-- holds no worth in range
 numberOf BrokenState = 12
 numberOf TooManyTicks = 13
 numberOf BrokenCell = 14

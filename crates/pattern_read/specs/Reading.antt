@@ -5,7 +5,7 @@ use mathlib.Core.Path.{_≡_}
 use mathlib.Core.Logic.{_↔_}
 use mathlib.Core.Bool.{true}
 use Rattle.pattern.specs.declared.Pattern.{Pattern}
-use Rattle.pattern.specs.declared.Refusal.{Refusal}
+use Rattle.pattern.specs.declared.Refusal.the-variants.{TextTooLong, BrokenForm, OutOfRange, TooMany, UnknownIndex}
 use Rattle.pattern.specs.Refusal.{numberOf}
 use Rattle.pattern.specs.Sound.{noPattern, soundOf}
 use Rattle.pattern_text.specs.Bytes.{Bytes}
@@ -28,19 +28,24 @@ outcomeNumber (Refused r) = numberOf r
 abbrev pub readAs : PatternRead → ℕ × Pattern
 readAs r = (outcomeNumber (r .outcome), r .pattern)
 
--- What is due to a text, in document 01's numbers.
-abbrev pub answerNumbers : Answer → ℕ × Pattern
-answerNumbers (accepted p) = (0, p)
-answerNumbers (refused r) = (numberOf r, noPattern)
+-- What is due to a text: the number of its cause, and the pattern or zeros.
+abbrev pub dueTo : Answer → ℕ × Pattern
+dueTo (accepted p) = (0, p)
+dueTo (refused r) = (numberOf r, noPattern)
 
 abbrev pub readNumbers : Bytes → ℕ × Pattern
-readNumbers t = answerNumbers (readOf t)
+readNumbers t = dueTo (readOf t)
 
--- The number and the pattern that a text gives cause for: 0 and p for the text of the sound pattern p; else the number of what
--- is wrong with it (`pattern_text/specs/Claims` Outcome: 1 by its length, 2 to 5 by its first faulty line), and zeros.
+-- Document 01's number for each cause: 0 and p for the text of the sound pattern p; else the number of what is wrong with the
+-- text, and zeros. What is wrong is by `pattern_text/specs/Claims` Outcome its length, its first faulty line, or that it ends
+-- too soon.
 pub data Due (t : Bytes) : ℕ → Pattern → Type 0 where
   sound : (p : Pattern) → soundOf p ≡ true → t ≡ renderOf p → Due t 0 p
-  faulty : (r : Refusal) → Cause t (refused r) → Due t (numberOf r) noPattern
+  tooLong : Cause t (refused TextTooLong) → Due t 1 noPattern
+  brokenForm : Cause t (refused BrokenForm) → Due t 2 noPattern
+  outOfRange : Cause t (refused OutOfRange) → Due t 3 noPattern
+  tooMany : Cause t (refused TooMany) → Due t 4 noPattern
+  unknownIndex : Cause t (refused UnknownIndex) → Due t 5 noPattern
 
 -- Theorem: every text is answered with what it gives cause for, and with nothing else.
 abbrev pub ReadNumbers : Type 0

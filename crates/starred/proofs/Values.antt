@@ -9,7 +9,7 @@ use Rattle.pattern.specs.Cells.{boundsOn, largest, ceilingOf, clockCells, cells
 use Rattle.pattern.specs.Clocks.{guardsHold, afterResets}
 use Rattle.pattern.specs.Distance.{placeWorth, distancesOf}
 use Rattle.pattern_text.specs.Examples as pattern-text
-use Rattle.pattern_read.specs.Reading.{answerNumbers}
+use Rattle.pattern_read.specs.Reading.{dueTo}
 use Rattle.record.specs.Record.{total, recordSound, bookOf, piecesOf, sampleAt, ticksOf}
 use Rattle.record.specs.Joined.{sameSample, absorb, joined, observed}
 use Rattle.record.specs.Run.{canStep, goes, isRun, lengthOf, stepsOf}
@@ -30,9 +30,9 @@ accepted = sym (check-numbers 1 exampleText) ∙ ap (λ o. checkedAs (checkedOf 
 pub starred-hold : Starred
 unfolding durationsOf valuesOf flatMap slots testUnused guardUnused placeUnused edgeUnused testInRange testKnown guardInRange guardKnown headerInRange placeSound edgeSound soundOf boundsOn largest ceilingOf clockCells cellsFor cellsNeeded stepsFit recordSound total bookOf piecesOf sampleAt ticksOf sameSample absorb joined observed canStep goes isRun lengthOf stepsOf stayWorth stayWorths runWorth priceOf guardsHold afterResets zipWith combineFrom placeWorth distancesOf
 starred-hold = (
-  ap answerNumbers (pattern-text.reads Margin),
+  ap dueTo (pattern-text.reads Margin),
   (
-    ap answerNumbers (pattern-text.reads Sum),
+    ap dueTo (pattern-text.reads Sum),
     (
       accepted,
       (

@@ -14,13 +14,13 @@ use Rattle.pattern_text.specs.Bytes.{Bytes}
 use Rattle.pattern_text.specs.Text.{Answer, accepted, refused, readOf, renderOf}
 use Rattle.pattern_text.proofs.Theorems.{texts-exact}
 use Rattle.pattern_text.proofs.Stops.{refusal-numbers}
-use Rattle.pattern_read.specs.Reading.{answerNumbers, readNumbers}
+use Rattle.pattern_read.specs.Reading.{dueTo, readNumbers}
 use Rattle.pattern_write.specs.Written.{writtenNumbers, outputOf}
-use Rattle.text_demand.specs.Demand.{ReadIsWritten, WrittenIsRead, Demand2}
+use Rattle.text_demand.specs.Demand.{ReadIsWritten, WrittenIsRead, TextDemand2}
 
 -- ---- a text that is accepted is the text of a sound pattern
 
-accepts : (t : Bytes) (a : Answer) → readOf t ≡ a → (p : Pattern) → answerNumbers a ≡ (0, p) → (soundOf p ≡ true) × (t ≡ renderOf p)
+accepts : (t : Bytes) (a : Answer) → readOf t ≡ a → (p : Pattern) → dueTo a ≡ (0, p) → (soundOf p ≡ true) × (t ≡ renderOf p)
 accepts t (accepted q) e p k = texts-exact t p .0 (e ∙ ap (λ (x : ℕ × Pattern). accepted (x .1)) k)
 accepts t (refused r) e p k =
     let h = refusal-numbers t r e in
@@ -64,7 +64,7 @@ written-is-read p out a after n writes is r reads =
     let f = fine p (length out) n (sym (writes .answer) ∙ is) in
     let whole : take n after ≡ renderOf p =
     ap (take n) (writes .output ∙ output-is p (f .sound) out (f .fits)) ∙ take-at (renderOf p) (drop (length (renderOf p)) out) n (sym (f .long)) in
-    reads ∙ ap readNumbers whole ∙ ap answerNumbers (texts-exact (renderOf p) p .1 (f .sound, refl))
+    reads ∙ ap readNumbers whole ∙ ap dueTo (texts-exact (renderOf p) p .1 (f .sound, refl))
 
-pub demand2 : Demand2
-demand2 = (read-is-written, written-is-read)
+pub text-demand2 : TextDemand2
+text-demand2 = (read-is-written, written-is-read)

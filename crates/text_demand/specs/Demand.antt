@@ -34,5 +34,5 @@ WrittenIsRead =
     (p : Pattern) (out : Bytes) (a : Written) (after : Bytes) (n : ℕ) → Writes p out a after → writtenAs a ≡ (0, n)
     → (r : PatternRead) → Reads (take n after) r → readAs r ≡ (0, p)
 
-abbrev pub Demand2 : Type 0
-Demand2 = ReadIsWritten × WrittenIsRead
+abbrev pub TextDemand2 : Type 0
+TextDemand2 = ReadIsWritten × WrittenIsRead

@@ -1,14 +1,15 @@
 -- At length 0 a table is as an opening; cutting the ticks into calls changes nothing; only the ticks passed matter, and only
 -- the cells.
-use mathlib.Core.Path.{_≡_, refl, fun-ext}
+use mathlib.Core.Path.{_≡_, refl, sym, fun-ext}
 use mathlib.Core.Bool.{Bool, true, false, cond}
 use mathlib.Core.List.{List}
 use Prim.Native.Nat.{ℕ, zero, suc, _+_}
 use native.Mathlib.Omega.{arith}
+use borrow.Author.Tests.{eq-eqb, eqb-true}
 use lib.Dec.{eqb}
 use Rattle.weighting.specs.Weighting.{Weighting}
-use Rattle.walks.specs.Automaton.{Automaton, State, Same}
-use Rattle.walks.specs.Tables.{next, tableAt}
+use Rattle.walks.specs.Automaton.{Automaton, View, State, Same}
+use Rattle.walks.specs.Tables.{opening, next, tableAt}
 use Rattle.walks.specs.Claims.{EmptyRunHeld, Cut, OnlyPassed, OnlyCells}
 use Rattle.walks.proofs.Rows.{only-shorter}
 
@@ -20,8 +21,13 @@ kept-by false a b h = refl
 module _ {W C E : Type 0} (𝓦 : Weighting W) (A : Automaton C E) (Q : Same C) (high : ℕ) (all : List (State C)) where
   pub empty-run-held : EmptyRunHeld 𝓦 A Q high all
   unfolding next
-  empty-run-held 𝓥 zero s = kept-by (eqb (s .len) 0) _ _ (λ e. refl)
-  empty-run-held 𝓥 (suc n) s = kept-by (eqb (s .len) 0) _ _ (λ e. rw e)
+  empty-run-held 𝓥 zero s h = refl
+  empty-run-held 𝓥 (suc n) s h = rw (eq-eqb (s .len) 0 h)
+
+  -- so writing those cells anew changes nothing, and no claim about tables after an opening can tell whether a call does
+  pub written-anew : (𝓥 : View W) (n : ℕ) (s : State C)
+      → cond (eqb (s .len) 0) (opening 𝓦 A Q s) (tableAt 𝓦 A Q high all 𝓥 (opening 𝓦 A Q) n s) ≡ tableAt 𝓦 A Q high all 𝓥 (opening 𝓦 A Q) n s
+  written-anew 𝓥 n s = kept-by (eqb (s .len) 0) _ _ (λ e. sym (empty-run-held 𝓥 n s (eqb-true (s .len) 0 e)))
 
   pub cut : Cut 𝓦 A Q high all
   cut 𝓥 𝓥′ T₀ m zero h = let e : m + 0 ≡ m = omega arith in rw e

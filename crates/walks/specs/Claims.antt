@@ -1,11 +1,11 @@
 -- What is claimed, and proved in proofs/: for an arbitrary weighting, automaton and view of ticks.
 use mathlib.Core.Path.{_≡_}
-use mathlib.Core.Bool.{Bool, cond}
+use mathlib.Core.Bool.{Bool}
 use mathlib.Core.Logic.{_↔_}
 use mathlib.Core.Option.{none, some}
 use mathlib.Core.List.{List, List·Memᴰ}
 use Prim.Native.Nat.{ℕ, suc, _+_, _≤_, _<_}
-use lib.Dec.{T, eqb}
+use lib.Dec.{T}
 use Rattle.weighting.specs.Order.{IsBest}
 use Rattle.weighting.specs.Weighting.{Weighting}
 use Rattle.weighting.specs.Shortest.{shortest}
@@ -67,13 +67,11 @@ module _ {W C E : Type 0} (𝓦 : Weighting W) (A : Automaton C E) (Q : Same C) 
       → Reported 𝓦 (Wanted 𝓦 A 𝓥 low high n) (reportAt 𝓦 (heldAt hold A) Q high all low 𝓥 n)
 
 module _ {W C E : Type 0} (𝓦 : Weighting W) (A : Automaton C E) (Q : Same C) (high : ℕ) (all : List (State C)) where
-  -- "At each time" the empty run's worth stands where an opening writes it: to write the cells of length 0 anew changes no table
-  -- that ticks made of an opening.
+  -- At each time after an opening the cells of length 0 are as the opening left them: the empty run's worth in the start places.
   abbrev pub EmptyRunHeld : Type 0
   EmptyRunHeld =
-      (𝓥 : View W) (n : ℕ) (s : State C)
-      → cond (eqb (s .len) 0) (opening 𝓦 A Q s) (tableAt 𝓦 A Q high all 𝓥 (opening 𝓦 A Q) n s)
-      ≡ tableAt 𝓦 A Q high all 𝓥 (opening 𝓦 A Q) n s
+      (𝓥 : View W) (n : ℕ) (s : State C) → s .len ≡ 0
+      → tableAt 𝓦 A Q high all 𝓥 (opening 𝓦 A Q) n s ≡ opening 𝓦 A Q s
 
   -- 5. Cutting the ticks into calls changes nothing: a call that finds the table after m ticks, and sees n ticks more by a
   -- view of its own, leaves the table after m + n ticks.

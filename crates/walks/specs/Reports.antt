@@ -1,5 +1,5 @@
--- Reports: "the best score among the runs with that end whose length is at least the window's low and at most its high,
--- and the least length among those with that score".
+-- Reports (document 01, 'Monitor tables', demand 3): of the runs that end at a time with a length in the window, the best score and
+-- the least length that has it.
 use mathlib.Core.Path.{_≡_}
 use mathlib.Core.Bool.{Bool, true, cond, _&&_}
 use mathlib.Core.Option.{Option, none, some}
