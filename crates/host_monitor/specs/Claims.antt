@@ -75,7 +75,7 @@ AllFed x p b l t u (c ∷ cs) =
 
 -- Demand 3 of the functions for C: for every list of feeds after an accepted opening, with whatever the slices held before it,
 -- where every call of the list has the text of the opening. The pattern is read anew at each call, and nothing keeps a host
--- from changing the text between two calls: then the cells are taken as the worths they say for the other pattern.
+-- from changing the text between two calls: then a call is judged by the other pattern, and the claim says nothing of it.
 abbrev pub HostDemand3 : Type 0
 HostDemand3 =
     (x : Bytes) (p : Pattern) → readOf x ≡ accepted p → (l t u : List ℤ) → openedNumber (readOf x) l t u ≡ 0 → (calls : List Call)

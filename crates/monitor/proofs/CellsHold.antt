@@ -5,12 +5,10 @@ use mathlib.Core.Path.{_≡_, refl, sym, ap, subst, _∙_}
 use mathlib.Core.List.{List, [], _∷_}
 use mathlib.Core.Option.{Option, none, some}
 use mathlib.Core.Bool.{true}
-use lib.ListN.{length, take, drop, replicate, length-replicate}
-use lib.Seq.{take-at, drop-at}
+use lib.ListN.{length}
 use lib.IntN.{ℤ}
 use Rattle.weighting.specs.Order.{IsBest}
 use Rattle.weighting.specs.Weightings.{weightingOf}
-use Rattle.weighting.specs.Cell.{mark, cellOf}
 use Rattle.weighting.proofs.Best.{IsBest-iff}
 use Rattle.pattern.specs.declared.Pattern.{Pattern}
 use Rattle.pattern.specs.declared.Refusal.{Refusal}
@@ -20,7 +18,6 @@ use Rattle.pattern.specs.Cells.{cellsNeeded}
 use Rattle.record.specs.Record.{Book}
 use Rattle.walks.specs.Automaton.{State as RunState}
 use Rattle.walks.specs.Walks.{Reach}
-use Rattle.walks.specs.Tables.{Table}
 use Rattle.walks.proofs.Held.{held-walks}
 use Rattle.walks.proofs.TableBest.{table-best}
 use Rattle.walks.proofs.ReportsBest.{opening-within}
@@ -29,15 +26,14 @@ use Rattle.book.specs.View.{viewOf}
 use Rattle.book.proofs.Ceilings.{ceilings-hold}
 use Rattle.book.proofs.Unfinished.{unfinished-are-reached}
 use Rattle.monitor.specs.declared.State.{State}
-use Rattle.monitor.specs.Cells.{stateAt, cellStates, written}
+use Rattle.monitor.specs.Cells.{stateAt, cellStates}
 use Rattle.monitor.specs.Tick.{openTable}
-use Rattle.monitor.specs.Open.{marks, openState, openFirst, openSecond}
+use Rattle.monitor.specs.Open.{openState, openFirst, openSecond}
 use Rattle.monitor.specs.Feed.{Call, feedRefusal, tableAfter, feedState, feedFirst, feedSecond}
 use Rattle.monitor.specs.Demand.{bookAfter}
-use Rattle.monitor.specs.Between.{NowIn, TablesHold, HoldAfter, CellsHold}
-use Rattle.monitor.proofs.Numbers.{made-rest}
+use Rattle.monitor.specs.Between.{NowIn, Aside, TablesHold, HoldAfter, CellsHold}
 use Rattle.monitor.proofs.CellLaws.{closed, celled-at, in-cells}
-use Rattle.monitor.proofs.Written.{cell-is, written-length, marks-length}
+use Rattle.monitor.proofs.Written.{aside-written, cell-is}
 use Rattle.monitor.proofs.Between.{Between, bookTable}
 use Rattle.monitor.proofs.Demand.{after, open-parts, opened}
 
@@ -72,34 +68,12 @@ module _ (p : Pattern) (sound : soundOf p ≡ true) (b : Book) where
 
 -- ---- the rest of both tables
 
--- the second table, and the further cells of both
-record Aside (p : Pattern) (t₀ u₀ t u : List ℤ) : Type 0 where
-  marked : take (cellsNeeded p) u ≡ replicate (cellsNeeded p) mark
-  furtherFirst : drop (cellsNeeded p) t ≡ drop (cellsNeeded p) t₀
-  furtherSecond : drop (cellsNeeded p) u ≡ drop (cellsNeeded p) u₀
-  firstLong : length t ≡ length t₀
-  secondLong : length u ≡ length u₀
-
 module _ (p : Pattern) (sound : soundOf p ≡ true) (t₀ u₀ : List ℤ) where
-  -- a table written, and marks: from tables whose further cells are untouched
-  aside : (U : Table ℤ Clocks) (t u : List ℤ) → cellsNeeded p ≤ length t → cellsNeeded p ≤ length u
-      → drop (cellsNeeded p) t ≡ drop (cellsNeeded p) t₀ → drop (cellsNeeded p) u ≡ drop (cellsNeeded p) u₀ → length t ≡ length t₀ → length u ≡ length u₀
-      → Aside p t₀ u₀ (written p U t) (marks p u)
-  unfolding written
-  aside U t u long wide e f m n =
-      record {
-        marked = take-at (replicate (cellsNeeded p) mark) (drop (cellsNeeded p) u) (cellsNeeded p) (length-replicate (cellsNeeded p) mark);
-        furtherFirst = made-rest (λ i. cellOf (U (stateAt p i))) (cellsNeeded p) (drop (cellsNeeded p) t) ∙ e;
-        furtherSecond = drop-at (replicate (cellsNeeded p) mark) (drop (cellsNeeded p) u) (cellsNeeded p) (length-replicate (cellsNeeded p) mark) ∙ f;
-        firstLong = written-length p sound U t long ∙ m;
-        secondLong = marks-length p sound u wide ∙ n;
-      }
-
   aside-after : (b : Book) (s : State) (t u : List ℤ) → Between p b s t u → Aside p t₀ u₀ t u → (c : Call) → Aside p t₀ u₀ (feedFirst p s t u c) (feedSecond p s t u c)
   aside-after b s t u h k c = by (feedRefusal p s t u c) refl
     where
       by : (o : Option Refusal) → feedRefusal p s t u c ≡ o → Aside p t₀ u₀ (feedFirst p s t u c) (feedSecond p s t u c)
-      by none e = rw e (aside (tableAfter p s t (c .values) (c .duration)) t u (h .firstLong) (h .secondLong) (k .furtherFirst) (k .furtherSecond) (k .firstLong) (k .secondLong))
+      by none e = rw e (aside-written p sound t₀ u₀ (tableAfter p s t (c .values) (c .duration)) t u (h .firstLong) (h .secondLong) (k .furtherFirst) (k .furtherSecond) (k .firstLong) (k .secondLong))
       by (some r) e = rw e k
 
   -- ---- the list of calls
@@ -111,11 +85,7 @@ module _ (p : Pattern) (sound : soundOf p ≡ true) (t₀ u₀ : List ℤ) where
             subst (IsBest (weightingOf (p .weighing) .order) (NowIn p b i))
             (sym (h .holds (stateAt p i) (in-cells p sound (stateAt p i) (celled-at p sound i l))) ∙ cell-is p sound t i l)
             (cell-best p sound b i l);
-        marked = k .marked;
-        furtherFirst = k .furtherFirst;
-        furtherSecond = k .furtherSecond;
-        firstLong = k .firstLong;
-        secondLong = k .secondLong;
+        aside = k;
       }
 
   hold-after : (calls : List Call) (b : Book) (s : State) (t u : List ℤ) → Between p b s t u → Aside p t₀ u₀ t u → HoldAfter p t₀ u₀ b s t u calls
@@ -126,5 +96,5 @@ module _ (p : Pattern) (sound : soundOf p ≡ true) (t₀ u₀ : List ℤ) where
 pub cells-hold : CellsHold
 cells-hold p s t u e calls =
     let o = open-parts p (length t) (length u) e in
-    let k : Aside p t u (openFirst p t u) (openSecond p t u) = rw e (aside p (o .0) t u (openTable p) t u (o .1) (o .2) refl refl refl refl) in
+    let k : Aside p t u (openFirst p t u) (openSecond p t u) = rw e (aside-written p (o .0) t u (openTable p) t u (o .1) (o .2) refl refl refl refl) in
     hold-after p (o .0) t u calls [] (openState p t u s) (openFirst p t u) (openSecond p t u) (opened p s t u e) k

@@ -34,8 +34,7 @@ use Rattle.monitor.specs.Feed.{Call, feedRefusal, reportAfter, feedState
 use Rattle.monitor.specs.Demand.{refusalBy, bookAfter, InWindow, BestRun, NoRun, Accepted, Rejected, Right, AllRight, Demand3, PossibleNumber, AllPossible, OnlyThreeCauses}
 use Rattle.monitor.proofs.Accepted.{opened as parts-of}
 use Rattle.monitor.proofs.Answers.{possible-number}
-use Rattle.monitor.proofs.Reports.{scores-are, lengths-are, scores-long, lengths-long, score-told, length-told, best-said}
-use Rattle.monitor.proofs.Numbers.{made-rest}
+use Rattle.monitor.proofs.Reports.{scores-rest, lengths-rest, scores-long, lengths-long, score-told, length-told, best-said}
 use Rattle.monitor.proofs.CellLaws.{closed, of-cells}
 use Rattle.monitor.proofs.Written.{held-written, written-length, marks-length}
 use Rattle.monitor.proofs.Between.{Fine, Between, next, refusal-is, ticks-in, go-on, next-length, piece, cell-no-mark}
@@ -92,8 +91,8 @@ module _ (p : Pattern) (b : Book) (s : State) (t u : List ℤ) (h : Between p b 
               (report-right p (h .sound) (next p b s t u h c none-given) (length b + i + 1) (let e = next-length p b s t u h c none-given in omega arith));
           scoresLong = scores-long p s t u c feed-given (piece p b s t u h c none-given .scores);
           lengthsLong = lengths-long p s t u c feed-given (piece p b s t u h c none-given .lengths);
-          laterScores = ap (drop (c .duration)) (scores-are p s t u c feed-given) ∙ made-rest (λ i. scoreIn (reportAfter p s t (c .values) i)) (c .duration) (drop (c .duration) (c .scores));
-          laterLengths = ap (drop (c .duration)) (lengths-are p s t u c feed-given) ∙ made-rest (λ i. lengthIn (reportAfter p s t (c .values) i)) (c .duration) (drop (c .duration) (c .lengths));
+          laterScores = scores-rest p s t u c feed-given;
+          laterLengths = lengths-rest p s t u c feed-given;
         }
 
     after-accepted : Between p (bookAfter p b c) (feedState p s t u c) (feedFirst p s t u c) (feedSecond p s t u c)

@@ -7,6 +7,7 @@ use mathlib.Core.List.{List}
 use mathlib.Core.Option.{Option, none}
 use mathlib.Core.Bool.{not}
 use lib.ListN.{length, drop, getD}
+use lib.Seq.{take-at, drop-at}
 use lib.IntN.{ℤ, pos}
 use Rattle.weighting.specs.Order.{IsBest}
 use Rattle.weighting.specs.Weightings.{weightingOf}
@@ -27,16 +28,18 @@ use Rattle.book.specs.Automaton.{sameClocks, heldAutomaton}
 use Rattle.monitor.specs.declared.State.{State}
 use Rattle.monitor.specs.Cells.{stateAt, indexOf, cellStates, heldBy, written}
 use Rattle.monitor.specs.Tick.{ticksLater, reportOf}
+use Rattle.monitor.specs.State.{lastSample, pieceLater}
 use Rattle.monitor.specs.Open.{unlessRefused}
-use Rattle.monitor.specs.Feed.{Call, feedRefusal, isNew, pieceView, tableAfter, reportAfter, feedFirst, feedScores, feedLengths}
+use Rattle.monitor.specs.Feed.{Call, feedRefusal, isNew, pieceView, tableAfter, reportAfter, feedState, feedFirst, feedSecond, feedScores, feedLengths}
 use Rattle.monitor.specs.Demand.{BestAmong, NoneAmong}
+use Rattle.monitor.specs.Between.{Aside}
 use Rattle.monitor.specs.Lent.{CellsSayWorths, valuesBefore, callView, Reached, EndsThere, FedFrom, LentTablesFed}
 use Rattle.monitor.proofs.Numbers.{made-front}
 use Rattle.monitor.proofs.CellLaws.{closed, celled-at, in-cells}
 use Rattle.monitor.proofs.Sizes.{tick-sized, lent-sized}
-use Rattle.monitor.proofs.Written.{written-length, cell-is, only-cells-hold, held-within, held-low}
+use Rattle.monitor.proofs.Written.{aside-written, cell-is, only-cells-hold, held-within, held-low}
 use Rattle.monitor.proofs.Accepted.{Fed, fed}
-use Rattle.monitor.proofs.Reports.{score-told, length-told, scores-long, lengths-long, best-said}
+use Rattle.monitor.proofs.Reports.{score-told, length-told, scores-rest, lengths-rest, scores-long, lengths-long, best-said}
 
 pub cells-say-worths : CellsSayWorths
 cells-say-worths p sound t =
@@ -103,21 +106,27 @@ module _ (p : Pattern) (s : State) (t u : List ℤ) (c : Call) (given : feedRefu
       (best-said p (EndsThere p s t vs (i + 1)) (reportOf p (table (i + 1)))
       (reports-reached (weightingOf (p .weighing)) (heldAutomaton p) sameClocks (callView p s vs) (p .high) (cellStates p) (closed p (ok .sound)) (heldBy p t) (held-within p (ok .sound) t) (p .low) (i + 1)))
 
-  -- ---- lengths
+  -- ---- the rest of what was lent
 
-  first-long : length (feedFirst p s t u c) ≡ length t
-  first-long =
-      ap (λ (o : Option Refusal). length (unlessRefused o (written p (tableAfter p s t vs (c .duration)) t) t)) given
-      ∙ written-length p (ok .sound) (tableAfter p s t vs (c .duration)) t (ok .tables .first)
+  aside-left : Aside p t u (feedFirst p s t u c) (feedSecond p s t u c)
+  aside-left = rw given (aside-written p (ok .sound) t u (tableAfter p s t vs (c .duration)) t u (ok .tables .first) (ok .tables .second) refl refl refl refl)
+
+  state-left : feedState p s t u c ≡ pieceLater p s (c .duration) vs
+  state-left = ap (λ (o : Option Refusal). unlessRefused o (pieceLater p s (c .duration) vs) s) given
 
   left : FedFrom p s t u c
   left =
       record {
         cells = cell-best;
         reports = report-best;
-        firstLong = first-long;
+        laterScores = scores-rest p s t u c given;
+        laterLengths = lengths-rest p s t u c given;
         scoresLong = scores-long p s t u c given (ok .scores);
         lengthsLong = lengths-long p s t u c given (ok .lengths);
+        aside = aside-left;
+        ticks = ap (λ (q : State). q .ticks) state-left;
+        lastValues = ap (lastSample p) state-left ∙ take-at vs (drop (p .channels) (s .last)) (p .channels) (ok .piece .count);
+        unused = ap (λ (q : State). drop (p .channels) (q .last)) state-left ∙ drop-at vs (drop (p .channels) (s .last)) (p .channels) (ok .piece .count);
       }
 
 pub lent-tables-fed : LentTablesFed

@@ -19,7 +19,7 @@ use Rattle.monitor.specs.Tick.{scoreIn, lengthIn}
 use Rattle.monitor.specs.Open.{unlessRefused}
 use Rattle.monitor.specs.Feed.{Call, feedRefusal, reportAfter, feedScores, feedLengths}
 use Rattle.monitor.specs.Demand.{BestAmong, NoneAmong}
-use Rattle.monitor.proofs.Numbers.{made-front, told-length}
+use Rattle.monitor.proofs.Numbers.{made-front, made-rest, told-length}
 
 module _ (p : Pattern) (s : State) (t u : List ℤ) (c : Call) (given : feedRefusal p s t u c ≡ none) where
   pub scores-are : feedScores p s t u c ≡ map (λ i. scoreIn (reportAfter p s t (c .values) i)) (upTo (c .duration)) ++ drop (c .duration) (c .scores)
@@ -27,6 +27,13 @@ module _ (p : Pattern) (s : State) (t u : List ℤ) (c : Call) (given : feedRefu
 
   pub lengths-are : feedLengths p s t u c ≡ map (λ i. lengthIn (reportAfter p s t (c .values) i)) (upTo (c .duration)) ++ drop (c .duration) (c .lengths)
   lengths-are = ap (λ (o : Option Refusal). unlessRefused o (map (λ i. lengthIn (reportAfter p s t (c .values) i)) (upTo (c .duration)) ++ drop (c .duration) (c .lengths)) (c .lengths)) given
+
+  -- later places
+  pub scores-rest : drop (c .duration) (feedScores p s t u c) ≡ drop (c .duration) (c .scores)
+  scores-rest = ap (drop (c .duration)) scores-are ∙ made-rest (λ i. scoreIn (reportAfter p s t (c .values) i)) (c .duration) (drop (c .duration) (c .scores))
+
+  pub lengths-rest : drop (c .duration) (feedLengths p s t u c) ≡ drop (c .duration) (c .lengths)
+  lengths-rest = ap (drop (c .duration)) lengths-are ∙ made-rest (λ i. lengthIn (reportAfter p s t (c .values) i)) (c .duration) (drop (c .duration) (c .lengths))
 
   -- as long as before
   pub scores-long : c .duration ≤ length (c .scores) → length (feedScores p s t u c) ≡ length (c .scores)

@@ -9,7 +9,7 @@ use mathlib.Core.Bool.{Bool, true, false, cond, _||_, or-true}
 use borrow.Author.Tests.{le-leb, leb-true, ltb-true}
 use lib.Dec.{leb, ltb}
 use lib.ListN.{length, take, drop, getD, length-append, length-drop, length-map, length-take, replicate, length-replicate}
-use lib.Seq.{getD-take, drop-at}
+use lib.Seq.{getD-take, take-at, drop-at}
 use lib.IntN.{ℤ, natAbs}
 use Rattle.integers.specs.Equal.{eqZ}
 use Rattle.integers.proofs.Equal.{eq-self, eq-true}
@@ -30,6 +30,7 @@ use Rattle.book.proofs.Members.{all-member, at-member}
 use Rattle.monitor.specs.Cells.{upTo, cellStates, stateAt, indexOf, isCell, heldBy, written}
 use Rattle.monitor.specs.Open.{marks}
 use Rattle.monitor.specs.Feed.{cellFine, cellsBroken}
+use Rattle.monitor.specs.Between.{Aside}
 use Rattle.monitor.proofs.Numbers.{from-length, made-front, made-rest, made-in, made-same}
 use Rattle.monitor.proofs.CellLaws.{Celled, is-cell, state-back, index-low, at-index, celled-at, in-cells}
 
@@ -139,3 +140,20 @@ module _ (p : Pattern) where
       ap (λ (l : List ℤ). l ++ drop (cellsNeeded p) t)
       (made-same (λ i. cellOf (U (stateAt p i))) (λ i. cellOf (W (stateAt p i))) 0 (cellsNeeded p)
       (λ k l. let z : 0 + k ≡ k = omega arith in ap cellOf (h (stateAt p k) (subst (λ (j : ℕ). List·Memᴰ (stateAt p j) (cellStates p)) z (made-in (stateAt p) 0 (cellsNeeded p) k (omega arith))))))
+
+-- ---- beside the worths
+
+module _ (p : Pattern) (sound : soundOf p ≡ true) (t₀ u₀ : List ℤ) where
+  -- a table written, and marks: from tables whose further cells are untouched
+  pub aside-written : (U : Table ℤ Clocks) (t u : List ℤ) → cellsNeeded p ≤ length t → cellsNeeded p ≤ length u
+      → drop (cellsNeeded p) t ≡ drop (cellsNeeded p) t₀ → drop (cellsNeeded p) u ≡ drop (cellsNeeded p) u₀ → length t ≡ length t₀ → length u ≡ length u₀
+      → Aside p t₀ u₀ (written p U t) (marks p u)
+  unfolding written
+  aside-written U t u long wide e f m n =
+      record {
+        marked = take-at (replicate (cellsNeeded p) mark) (drop (cellsNeeded p) u) (cellsNeeded p) (length-replicate (cellsNeeded p) mark);
+        furtherFirst = made-rest (λ i. cellOf (U (stateAt p i))) (cellsNeeded p) (drop (cellsNeeded p) t) ∙ e;
+        furtherSecond = drop-at (replicate (cellsNeeded p) mark) (drop (cellsNeeded p) u) (cellsNeeded p) (length-replicate (cellsNeeded p) mark) ∙ f;
+        firstLong = written-length p sound U t long ∙ m;
+        secondLong = marks-length p sound u wide ∙ n;
+      }

@@ -33,17 +33,20 @@ pub record NowIn (p : Pattern) (b : Book) (i : ℕ) (w : ℤ) : Type 0 where
   pub run : Unfinished p b (length b) state w
   pub cell : holdState (held p) state ≡ stateAt p i
 
--- Two tables, by what was lent at the opening and by what they are now.
-pub record TablesHold (p : Pattern) (lentFirst lentSecond : List ℤ) (b : Book) (first second : List ℤ) : Type 0 where
-  -- the best worth of all unfinished runs in that state now; the mark, which `heldIn` reads as none, exactly if there is none
-  pub cells : (i : ℕ) → i < cellsNeeded p → IsBest (weightingOf (p .weighing) .order) (NowIn p b i) (heldIn (getD first i mark))
-  -- "the needed cells of the second are all marks"
+-- Two tables beside their worths, by what was lent and by what they are now: the needed cells of the second are marks, further
+-- cells of both are untouched.
+pub record Aside (p : Pattern) (lentFirst lentSecond first second : List ℤ) : Type 0 where
   pub marked : take (cellsNeeded p) second ≡ replicate (cellsNeeded p) mark
-  -- "further cells are untouched"
   pub furtherFirst : drop (cellsNeeded p) first ≡ drop (cellsNeeded p) lentFirst
   pub furtherSecond : drop (cellsNeeded p) second ≡ drop (cellsNeeded p) lentSecond
   pub firstLong : length first ≡ length lentFirst
   pub secondLong : length second ≡ length lentSecond
+
+-- Two tables, by what was lent at the opening and by what they are now.
+pub record TablesHold (p : Pattern) (lentFirst lentSecond : List ℤ) (b : Book) (first second : List ℤ) : Type 0 where
+  -- the best worth of all unfinished runs in that state now; the mark, which `heldIn` reads as none, exactly if there is none
+  pub cells : (i : ℕ) → i < cellsNeeded p → IsBest (weightingOf (p .weighing) .order) (NowIn p b i) (heldIn (getD first i mark))
+  pub aside : Aside p lentFirst lentSecond first second
 
 -- The state: "ticks so far and the last values (zeros before the first piece and in unused channels)". The ticks are the
 -- book's, and the last values its last sample; before the first tick `before` is zeros, so there they are zeros throughout.

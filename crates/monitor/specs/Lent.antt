@@ -8,7 +8,7 @@ use mathlib.Core.Logic.{_⊎_}
 use mathlib.Core.List.{List}
 use mathlib.Core.Option.{none, some}
 use mathlib.Core.Bool.{true, not}
-use lib.ListN.{length, getD}
+use lib.ListN.{length, drop, getD}
 use lib.IntN.{ℤ, pos}
 use Rattle.weighting.specs.Order.{IsBest}
 use Rattle.weighting.specs.Weightings.{weightingOf}
@@ -27,17 +27,18 @@ use Rattle.book.specs.View.{tickView}
 use Rattle.monitor.specs.declared.State.{State}
 use Rattle.monitor.specs.Cells.{stateAt, heldBy}
 use Rattle.monitor.specs.State.{lastSample}
-use Rattle.monitor.specs.Feed.{Call, feedRefusal, feedFirst, feedScores, feedLengths}
+use Rattle.monitor.specs.Feed.{Call, feedRefusal, feedState, feedFirst, feedSecond, feedScores, feedLengths}
 use Rattle.monitor.specs.Demand.{BestAmong, NoneAmong}
+use Rattle.monitor.specs.Between.{Aside}
 
 -- ---- the lent cells
 
--- Theorem: a lent cell is taken as the worth it says, whoever wrote it. The state of a needed cell holds what the cell says, and
--- no other state holds anything.
+-- The state of a needed cell holds what the cell says, and no other state holds anything.
 pub record SaidByCells (p : Pattern) (t : List ℤ) : Type 0 where
   pub each : (i : ℕ) → i < cellsNeeded p → heldBy p t (stateAt p i) ≡ heldIn (getD t i mark)
   pub noOther : (x : RunState Clocks) (w : ℤ) → heldBy p t x ≡ some w → (i : ℕ) × (i < cellsNeeded p) × (stateAt p i ≡ x)
 
+-- Theorem: a lent cell is taken as the worth it says, whoever wrote it.
 abbrev pub CellsSayWorths : Type 0
 CellsSayWorths = (p : Pattern) → soundOf p ≡ true → (t : List ℤ) → SaidByCells p t
 
@@ -67,8 +68,7 @@ EndsThere p s t vs n len w =
 
 -- ---- the call
 
--- What an accepted feed leaves in the needed cells of the first table and in the report places below its duration. What the second
--- table held has no part in it.
+-- What an accepted feed leaves of all that was lent. What the second table held has no part in it but for its further cells.
 pub record FedFrom (p : Pattern) (s : State) (t u : List ℤ) (c : Call) : Type 0 where
   -- a needed cell: the best worth that is reached in its state; the mark, which `heldIn` reads as none, exactly if nothing is.
   -- (After n of the ticks the cells are what a call of n ticks would leave: this says it of every n.)
@@ -78,9 +78,17 @@ pub record FedFrom (p : Pattern) (s : State) (t u : List ℤ) (c : Call) : Type 
   pub reports : (i : ℕ) → i < c .duration
       → BestAmong p (EndsThere p s t (c .values) (i + 1)) (getD (feedScores p s t u c) i (pos 0)) (getD (feedLengths p s t u c) i 0)
       ⊎ NoneAmong (EndsThere p s t (c .values) (i + 1)) (getD (feedScores p s t u c) i (pos 0)) (getD (feedLengths p s t u c) i 0)
-  pub firstLong : length (feedFirst p s t u c) ≡ length t
+  -- later places of the reports are untouched
+  pub laterScores : drop (c .duration) (feedScores p s t u c) ≡ drop (c .duration) (c .scores)
+  pub laterLengths : drop (c .duration) (feedLengths p s t u c) ≡ drop (c .duration) (c .lengths)
   pub scoresLong : length (feedScores p s t u c) ≡ length (c .scores)
   pub lengthsLong : length (feedLengths p s t u c) ≡ length (c .lengths)
+  -- the second table's needed cells are marks, further cells of both tables untouched
+  pub aside : Aside p t u (feedFirst p s t u c) (feedSecond p s t u c)
+  -- the state: so many ticks more, the piece's values as the last ones, unused channels as they were
+  pub ticks : feedState p s t u c .ticks ≡ s .ticks + c .duration
+  pub lastValues : lastSample p (feedState p s t u c) ≡ c .values
+  pub unused : drop (p .channels) (feedState p s t u c .last) ≡ drop (p .channels) (s .last)
 
 -- Theorem: of every pattern, state, two tables and piece, wherever feeding is not refused.
 abbrev pub LentTablesFed : Type 0

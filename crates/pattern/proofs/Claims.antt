@@ -26,7 +26,7 @@ use Rattle.pattern.specs.Clocks.{onSide}
 use Rattle.pattern.specs.Distance.{distanceFrom, distancesOf, placeWorth, DistancesInRange, MarginIsLeast}
 use Rattle.pattern.specs.declared.Counted.the-variants.{Cells, Refused}
 use Rattle.pattern.specs.declared.Refusal.the-variants.{UnsoundPattern}
-use Rattle.pattern.specs.Cells.{boundsOn, largest, ceilingOf, clockCells, cellsFor, cellsNeeded, cellsOf, countedAs, GuardsSeeHeldClocks, SomeCell, CellsCounted}
+use Rattle.pattern.specs.Cells.{boundsOn, largest, ceilingOf, clockCells, cellsFor, cellsNeeded, cellsOf, countedAs, GuardsSeeHeldClocks, SomeCell, CellsNumbers}
 use Rattle.pattern.proofs.SoundLaws.{parts}
 
 -- ---- two tests that pass together are equal
@@ -71,9 +71,9 @@ pub some-cell : SomeCell
 unfolding cellsNeeded cellsFor
 some-cell p h = one-le-mul (one-le-mul {a = (p .high + 1) * 2} (omega arith) (parts p h .somePlace)) (clocks-some p (p .clocks))
 
-pub cells-counted : CellsCounted
+pub cells-numbers : CellsNumbers
 unfolding cellsOf
-cells-counted p = by (soundOf p)
+cells-numbers p = by (soundOf p)
   where
     by : (t : Bool) → countedAs (cond t (Cells (cellsNeeded p)) (Refused UnsoundPattern)) ≡ cond t (0, cellsNeeded p) (7, 0)
     by true = refl

@@ -87,5 +87,5 @@ abbrev pub cellsNumbers : Pattern → ℕ × ℕ
 cellsNumbers p = cond (soundOf p) (0, cellsNeeded p) (7, 0)
 
 -- Theorem: they agree.
-abbrev pub CellsCounted : Type 0
-CellsCounted = (p : Pattern) → countedAs (cellsOf p) ≡ cellsNumbers p
+abbrev pub CellsNumbers : Type 0
+CellsNumbers = (p : Pattern) → countedAs (cellsOf p) ≡ cellsNumbers p

@@ -22,8 +22,8 @@ numberOf BrokenSteps = 9
 numberOf NotARun = 10
 -- open, feed, best of a record: a table shorter than the cells needed
 numberOf TableTooShort = 11
--- feed: a broken state, which a slice too short for one is from C, in opening, too; too many ticks in all; a needed cell that
--- holds no worth in range
+-- feed: a broken state (a host in C gets 12 also for a state slice that is too short, in opening, too); too many ticks in all; a
+-- needed cell that holds no worth in range
 numberOf BrokenState = 12
 numberOf TooManyTicks = 13
 numberOf BrokenCell = 14

@@ -1,6 +1,6 @@
 -- Demand 2 of pattern texts (document 01, 'Read a pattern', 'Write a pattern'), over the operations: by what `read` and `write`
--- promise of their answers and of the lent output, whatever it held before. Proved in proofs/Demand.antt. That a text is read
--- exactly if it has the form is ReadNumbers (`pattern_read/specs/Reading`).
+-- promise of their answers and of the lent output, whatever it held before. Proved in proofs/Demand.antt. That a text is
+-- accepted exactly if it is a sound pattern's is ReadNumbers (`pattern_read/specs/Reading`).
 use Prim.Native.Nat.{ℕ, _≤_}
 use mathlib.Core.Path.{_≡_}
 use mathlib.Core.List.{_++_}

@@ -2,7 +2,7 @@ use mathlib.Core.Path.{_≡_, sym, ap, _∙_}
 use Rattle.pattern.specs.declared.Counted.{Counted}
 use Rattle.pattern.specs.declared.Pattern.{Pattern}
 use Rattle.pattern.specs.Cells.{countedAs, cellsOf, cellsNumbers}
-use Rattle.pattern.proofs.Claims.{cells-counted}
+use Rattle.pattern.proofs.Claims.{cells-numbers}
 use borrow.Author.Needs.{needs}
 use Rattle.pattern.proofs.cells.Statement.{statement}
 use Rattle.pattern.proofs.cells.Tie as tie
@@ -15,7 +15,7 @@ cells-needed-requires c κs = sym (c .before .sound .ensures) ∙ c .if1 .taken
 
 -- the answer, and what it says in numbers
 told : (p : Pattern) (r : Counted) → r ≡ cellsOf p → (r ≡ cellsOf p) × (countedAs r ≡ cellsNumbers p)
-told p r e = (e, ap countedAs e ∙ cells-counted p)
+told p r e = (e, ap countedAs e ∙ cells-numbers p)
 
 returns : tie.Need-returns
 unfolding cellsOf
