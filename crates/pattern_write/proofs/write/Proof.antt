@@ -18,7 +18,10 @@ sound-requires : tie.Need-sound-requires
 sound-requires c κs = search needs
 
 returns : tie.Need-returns
-returns c = unsound (c .before .before .before .args .p) _ (sym (c .before .sound .ensures) ∙ not-true _ (c .if1 .taken))
+returns c =
+    let a = c .before .before .before .args in
+    let k = unsound (a .p) (a .out .now) (sym (c .before .sound .ensures) ∙ not-true _ (c .if1 .taken)) in
+    (k .0, k .1)
 
 -- past the first test the pattern is sound
 is-sound : (c : tie.Else1) → soundOf (c .before .before .before .args .p) ≡ true
