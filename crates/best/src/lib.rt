@@ -21,7 +21,8 @@ ghost use Rattle.flags.specs.Flags.{Flagged};
 ghost use Rattle.monitor.specs.Cells.{layout, written};
 ghost use Rattle.monitor.specs.Open.{answerOf};
 ghost use Rattle.monitor.specs.Feed.{feedRefusal, feedState, feedFirst, feedScores, feedLengths};
-ghost use Rattle.best.specs.Best.{chosenWith, chosenOf, bestRefusal, answered, bestOf, foundAs, bestNumbers, bestFirst, bestSecond};
+ghost use Rattle.best.specs.Best.{chosenWith, chosenOf, bestRefusal, answered, bestOf, foundAs, bestNumbers};
+ghost use Rattle.best.specs.Best.{bestFirst, bestSecond};
 ghost use Rattle.best.specs.Search.{tableTo, chosenIn, chosenPast, chunkOf, SearchedTo, passed, Fit};
 
 // The best run's end, begin and score; no run; or refused for a cause.

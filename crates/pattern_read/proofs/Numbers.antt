@@ -1,7 +1,7 @@
 -- The answers of `read` in document 01's numbers.
 use Prim.Native.Nat.{ℕ, _≤_}
 use native.Mathlib.Omega.{arith}
-use mathlib.Core.Path.{_≡_, refl, ap, subst, _∙_}
+use mathlib.Core.Path.{_≡_, refl, ap, subst}
 use Rattle.pattern.specs.declared.Pattern.{Pattern}
 use Rattle.pattern.specs.declared.Refusal.{Refusal}
 use Rattle.pattern.specs.declared.Refusal.the-variants.{TextTooLong, BrokenForm, OutOfRange, TooMany, UnknownIndex, OutputTooShort, UnsoundPattern, BrokenRecord, BrokenSteps, NotARun, TableTooShort, BrokenState, TooManyTicks, BrokenCell}
@@ -13,16 +13,11 @@ use Rattle.pattern_text.specs.Claims.{Outcome as Cause}
 use Rattle.pattern_text.proofs.Theorems.{texts-exact}
 use Rattle.pattern_text.proofs.Answers.{answers-exact}
 use Rattle.pattern_text.proofs.Stops.{refusal-numbers}
-use Rattle.pattern_read.specs.declared.PatternRead.{PatternRead}
 use Rattle.pattern_read.specs.Reading.{readingOf, readAs, dueTo, readNumbers, Due, sound, tooLong, brokenForm, outOfRange, tooMany, unknownIndex, ReadNumbers}
 
-reading-as : (a : Answer) → readAs (readingOf a) ≡ dueTo a
+pub reading-as : (a : Answer) → readAs (readingOf a) ≡ dueTo a
 reading-as (accepted p) = refl
 reading-as (refused r) = refl
-
--- the answer, and what it says in numbers
-pub told : (t : Bytes) (r : PatternRead) → r ≡ readingOf (readOf t) → (r ≡ readingOf (readOf t)) × (readAs r ≡ readNumbers t)
-told t r e = (e, ap readAs e ∙ reading-as (readOf t))
 
 -- a text has no other causes than the first five
 faulty : (t : Bytes) (r : Refusal) → numberOf r ≤ 5 → Cause t (refused r) → Due t (numberOf r) noPattern

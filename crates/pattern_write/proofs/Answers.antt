@@ -9,6 +9,7 @@ use lib.Seq.{take-all, take-length, length-take-le}
 use Rattle.pattern.specs.declared.Pattern.{Pattern}
 use Rattle.pattern.specs.declared.Refusal.the-variants.{OutputTooShort, UnsoundPattern}
 use Rattle.pattern.specs.Sound.{soundOf}
+use Rattle.pattern.proofs.Said.{said}
 use Rattle.pattern_text.specs.Bytes.{Bytes}
 use Rattle.pattern_text.specs.Text.{renderOf}
 use Rattle.text_put.specs.Put.{Put}
@@ -41,7 +42,7 @@ module _ (p : Pattern) (out : Bytes) where
 
   -- the numbers follow from the answer
   promised : {a : Written} {o : Bytes} → a ≡ writtenOf p (length out) → o ≡ outputOf p out → Promised a o
-  promised e o = (e, (ap writtenAs e ∙ written-numbers p (length out), o))
+  promised e o = let k = said writtenAs (written-numbers p (length out)) e in (k .0, (k .1, o))
 
   pub unsound : soundOf p ≡ false → Promised (Refused UnsoundPattern) out
   unsound e = promised (rw e) (rw e)

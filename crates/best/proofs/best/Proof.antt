@@ -1,18 +1,14 @@
 -- Refused for a cause, or the choice told.
-use Prim.Native.Nat.{ℕ}
 use mathlib.Core.Path.{_≡_, sym, ap, _∙_}
-use mathlib.Core.List.{List}
-use lib.IntN.{ℤ}
 use mathlib.Core.Option.{none, some}
 use borrow.Author.Needs.{needs}
 use lib.ListN.{length}
 use Rattle.record.specs.Record.{bookOf}
 use Rattle.monitor.proofs.Demand.{open-parts}
 use Rattle.monitor.proofs.Accepted.{done, refused-for}
-use Rattle.pattern.specs.declared.Pattern.{Pattern}
-use Rattle.best.specs.declared.Found.{Found}
+use Rattle.pattern.proofs.Said.{said}
 use Rattle.best.specs.declared.Found.the-variants.{Refused}
-use Rattle.best.specs.Best.{bestRefusal, answered, bestOf, foundAs, bestNumbers}
+use Rattle.best.specs.Best.{bestRefusal, answered, bestOf, foundAs}
 use Rattle.best.proofs.Answer.{best-numbers}
 use Rattle.best.proofs.Ends.{begins-inside}
 use Rattle.best.proofs.Whole.{causes}
@@ -51,24 +47,23 @@ same-length c = search needs
 same-length-2 : tie.Need-same-length-2
 same-length-2 c = search needs
 
--- the answer, and what it says in numbers
-numbers : (p : Pattern) (ds : List ℕ) (vs t u : List ℤ) (r : Found) → r ≡ bestOf p ds vs t u → foundAs r ≡ bestNumbers p ds vs t u
-numbers p ds vs t u r e = ap foundAs e ∙ best-numbers p ds vs t u
-
 returns : tie.Need-returns
 returns c =
-    let a = c .before .before .before .before .before .before .before .before .before .before .args in
+    let s = c .before .before .before .before .before .before .before .before .before .before .args in
     let o = c .before .before .before .search-all .ensures in
-    let e : c .told .result ≡ bestOf (a .p) (a .durations .now) (a .values .now) (a .first .now) (a .second .now) =
-    rw (none-given (c .before .before .before .before)) (c .told .ensures ∙ ap (answered none) (o .0)) in
-    (e, (numbers (a .p) (a .durations .now) (a .values .now) (a .first .now) (a .second .now) _ e, (o .1 .0, o .1 .1)))
+    let due = bestOf (s .p) (s .durations .now) (s .values .now) (s .first .now) (s .second .now) in
+    let k = said foundAs {r = c .told .result} {a = due} (best-numbers (s .p) (s .durations .now) (s .values .now) (s .first .now) (s .second .now))
+    (rw (none-given (c .before .before .before .before)) (c .told .ensures ∙ ap (answered none) (o .0))) in
+    (k .0, (k .1, (o .1 .0, o .1 .1)))
 
 returns-2 : tie.Need-returns-2
 returns-2 c =
-    let a = c .before .before .before .before .before .args in
-    let e : bestRefusal (a .p) (a .durations .now) (a .values .now) (length (a .first .now)) (length (a .second .now)) ≡ some (c .before .r .given .0 .0) =
+    let s = c .before .before .before .before .before .args in
+    let e : bestRefusal (s .p) (s .durations .now) (s .values .now) (length (s .first .now)) (length (s .second .now)) ≡ some (c .before .r .given .0 .0) =
     refused-for _ _ (sym (c .before .r .given .1) ∙ c .before .before .before .refusal .ensures) in
-    (rw e, (numbers (a .p) (a .durations .now) (a .values .now) (a .first .now) (a .second .now) (Refused (c .before .r .given .0 .0)) (rw e), (rw e, rw e)))
+    let due = bestOf (s .p) (s .durations .now) (s .values .now) (s .first .now) (s .second .now) in
+    let k = said foundAs {r = Refused (c .before .r .given .0 .0)} {a = due} (best-numbers (s .p) (s .durations .now) (s .values .now) (s .first .now) (s .second .now)) (rw e) in
+    (k .0, (k .1, (rw e, rw e)))
 
 pub best-spec : {M : Type 1} → statement M
 best-spec =

@@ -1,17 +1,12 @@
 -- `feed` lends flags enough for the rows of a sound pattern.
 use native.Mathlib.Omega.{arith}
-use mathlib.Core.Path.{_≡_, ap, _∙_}
-use mathlib.Core.List.{List}
-use lib.IntN.{ℤ}
 use borrow.Author.Needs.{needs}
-use Rattle.pattern.specs.declared.Pattern.{Pattern}
+use Rattle.pattern.proofs.Said.{said}
 use Rattle.pattern.proofs.SoundLaws.{parts}
-use Rattle.monitor.specs.declared.State.{State}
 use Rattle.monitor.specs.declared.After.{After}
 use Rattle.monitor.specs.Open.{answerNumber}
-use Rattle.monitor.specs.Feed.{Call, feedNumber}
 use Rattle.monitor.proofs.Answers.{feed-numbers}
-use Rattle.feed.specs.After.{callOf, fedOf}
+use Rattle.feed.specs.After.{callOf}
 use Rattle.feed.proofs.feed.Statement.{statement}
 use Rattle.feed.proofs.feed.Tie as tie
 
@@ -33,15 +28,13 @@ same-length-3 c = search needs
 same-length-4 : tie.Need-same-length-4
 same-length-4 c = search needs
 
--- the state and the answer, and what it says in numbers
-answered : (p : Pattern) (s : State) (t u : List ℤ) (c : Call) (r : After) → r ≡ fedOf p s t u c → answerNumber (r .answer) ≡ feedNumber p s t u c
-answered p s t u c r e = ap (λ (x : After). answerNumber (x .answer)) e ∙ feed-numbers p s t u c
-
 returns : tie.Need-returns
 returns c =
     let a = c .before .before .before .before .before .before .before .before .before .before .before .before .before .before .before .args in
     let o = c .before .before .before .before .before .before .feed-with .ensures in
-    (o .0, (answered (a .p) (a .s) (a .first .now) (a .second .now) (callOf (a .duration) (a .values .now) (a .scores .now) (a .lengths .now)) _ (o .0), o .1))
+    let call = callOf (a .duration) (a .values .now) (a .scores .now) (a .lengths .now) in
+    let k = said (λ (x : After). answerNumber (x .answer)) (feed-numbers (a .p) (a .s) (a .first .now) (a .second .now) call) (o .0) in
+    (k .0, (k .1, o .1))
 
 slice-aggregate-feed-with-2 : tie.Need-slice-aggregate-feed-with-2
 slice-aggregate-feed-with-2 c = search needs
@@ -65,7 +58,9 @@ returns-2 : tie.Need-returns-2
 returns-2 c =
     let a = c .before .before .before .before .before .before .before .before .before .before .before .before .before .before .before .args in
     let o = c .before .before .before .before .before .before .feed-with2 .ensures in
-    (o .0, (answered (a .p) (a .s) (a .first .now) (a .second .now) (callOf (a .duration) (a .values .now) (a .scores .now) (a .lengths .now)) _ (o .0), o .1))
+    let call = callOf (a .duration) (a .values .now) (a .scores .now) (a .lengths .now) in
+    let k = said (λ (x : After). answerNumber (x .answer)) (feed-numbers (a .p) (a .s) (a .first .now) (a .second .now) call) (o .0) in
+    (k .0, (k .1, o .1))
 
 pub feed-spec : {M : Type 1} → statement M
 feed-spec =

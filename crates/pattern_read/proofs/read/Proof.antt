@@ -2,9 +2,11 @@
 use mathlib.Core.Path.{_∙_}
 use lib.ListN.{length}
 use borrow.Author.Tests.{lt-ltb, le-ltb}
+use Rattle.pattern.proofs.Said.{said}
 use Rattle.pattern_text.specs.Text.{readOf}
 use Rattle.pattern_read.specs.Finish.{refusedOf}
-use Rattle.pattern_read.proofs.Numbers.{told}
+use Rattle.pattern_read.specs.Reading.{readAs}
+use Rattle.pattern_read.proofs.Numbers.{reading-as}
 use Rattle.pattern_read.proofs.read.Statement.{statement}
 use Rattle.pattern_read.proofs.read.Tie as tie
 
@@ -15,7 +17,7 @@ returns : tie.Need-returns
 unfolding readOf refusedOf
 returns c =
     let t = c .before .before .before .args .text .now in
-    told t _ (rw (lt-ltb 8_192 (length t) (c .before .if1 .taken)) (c .refused .ensures))
+    said readAs (reading-as (readOf t)) (rw (lt-ltb 8_192 (length t) (c .before .if1 .taken)) (c .refused .ensures))
 
 read-lines-requires : tie.Need-read-lines-requires
 read-lines-requires c κs = tt
@@ -27,7 +29,7 @@ returns-2 : tie.Need-returns-2
 unfolding readOf
 returns-2 c =
     let t = c .before .before .before .before .args .text .now in
-    told t _ (rw (le-ltb 8_192 (length t) (c .before .before .if1 .left)) (c .finish .ensures ∙ c .before .read-lines .ensures))
+    said readAs (reading-as (readOf t)) (rw (le-ltb 8_192 (length t) (c .before .before .if1 .left)) (c .finish .ensures ∙ c .before .read-lines .ensures))
 
 pub read-spec : {M : Type 1} → statement M
 read-spec = tie.close (tie.spec refused-requires returns read-lines-requires finish-requires returns-2)

@@ -1,19 +1,14 @@
 -- `price` is the operation: the refusals in their order, else the score.
-use Prim.Native.Nat.{ℕ}
-use mathlib.Core.Path.{_≡_, sym, ap, _∙_}
-use mathlib.Core.List.{List}
+use mathlib.Core.Path.{_≡_, sym, _∙_}
 use borrow.Author.Needs.{needs}
 use mathlib.Core.Bool.{true}
-use lib.IntN.{ℤ}
 use borrow.Author.Tests.{not-true, not-false}
 use Rattle.pattern.specs.Sound.{soundOf}
 use Rattle.record.specs.Record.{recordSound}
-use Rattle.pattern.specs.declared.Pattern.{Pattern}
-use Rattle.price.specs.declared.Priced.{Priced}
-use Rattle.price.specs.Price.{stepsFit, pricedOf, pricedAs, pricedNumbers}
+use Rattle.pattern.proofs.Said.{said}
+use Rattle.price.specs.Price.{stepsFit, pricedOf, pricedAs}
 use Rattle.price.proofs.Numbers.{priced-numbers}
 use Rattle.record.proofs.RecordLaws.{parts}
-use borrow.Author.Needs.{needs}
 use Rattle.price.proofs.price.Statement.{statement}
 use Rattle.price.proofs.price.Tie as tie
 
@@ -32,16 +27,11 @@ steps-is c = sym (c .before .steps-fit .ensures) ∙ not-false (c .before .steps
 sound-requires : tie.Need-sound-requires
 sound-requires c κs = search needs
 
--- the answer, and what it says in numbers
-told : (p : Pattern) (ds : List ℕ) (vs : List ℤ) (begin : ℕ) (es ss : List ℕ) (r : Priced) → r ≡ pricedOf p ds vs begin es ss
-    → (r ≡ pricedOf p ds vs begin es ss) × (pricedAs r ≡ pricedNumbers p ds vs begin es ss)
-told p ds vs begin es ss r e = (e, ap pricedAs e ∙ priced-numbers p ds vs begin es ss)
-
 returns : tie.Need-returns
 unfolding pricedOf
 returns c =
     let a = c .before .before .before .before .before .args in
-    told (a .p) (a .durations .now) (a .values .now) (a .begin) (a .edges .now) (a .stays .now) _
+    said pricedAs (priced-numbers (a .p) (a .durations .now) (a .values .now) (a .begin) (a .edges .now) (a .stays .now))
     (rw (sym (c .before .sound .ensures) ∙ not-true (c .before .sound .result) (c .if1 .taken)))
 
 record-sound-requires : tie.Need-record-sound-requires
@@ -51,7 +41,7 @@ returns-2 : tie.Need-returns-2
 unfolding pricedOf
 returns-2 c =
     let a = c .before .before .before .before .before .before .before .args in
-    told (a .p) (a .durations .now) (a .values .now) (a .begin) (a .edges .now) (a .stays .now) _
+    said pricedAs (priced-numbers (a .p) (a .durations .now) (a .values .now) (a .begin) (a .edges .now) (a .stays .now))
     (rw (sound-is (c .before .before), sym (c .before .record-sound .ensures) ∙ not-true (c .before .record-sound .result) (c .if2 .taken)))
 
 steps-fit-requires : tie.Need-steps-fit-requires
@@ -61,7 +51,7 @@ returns-3 : tie.Need-returns-3
 unfolding pricedOf
 returns-3 c =
     let a = c .before .before .before .before .before .before .before .before .before .args in
-    told (a .p) (a .durations .now) (a .values .now) (a .begin) (a .edges .now) (a .stays .now) _
+    said pricedAs (priced-numbers (a .p) (a .durations .now) (a .values .now) (a .begin) (a .edges .now) (a .stays .now))
     (rw (sound-is (c .before .before .before .before), record-is (c .before .before), sym (c .before .steps-fit .ensures) ∙ not-true (c .before .steps-fit .result) (c .if3 .taken)))
 
 score-requires : tie.Need-score-requires
@@ -71,7 +61,7 @@ returns-4 : tie.Need-returns-4
 unfolding pricedOf
 returns-4 c =
     let a = c .before .before .before .before .before .before .before .before .before .before .args in
-    told (a .p) (a .durations .now) (a .values .now) (a .begin) (a .edges .now) (a .stays .now) _
+    said pricedAs (priced-numbers (a .p) (a .durations .now) (a .values .now) (a .begin) (a .edges .now) (a .stays .now))
     (rw (sound-is (c .before .before .before .before .before), record-is (c .before .before .before), steps-is (c .before)) (c .score .ensures))
 
 pub price-spec : {M : Type 1} → statement M

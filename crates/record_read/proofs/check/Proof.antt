@@ -1,26 +1,22 @@
 -- `check` meets its contract: 1, or what the walk over the lines ends with.
-use Prim.Native.Nat.{ℕ, _<_}
+use Prim.Native.Nat.{_<_}
 use native.Mathlib.Omega.{arith}
-use mathlib.Core.Path.{_≡_, refl, ap, _∙_}
+use mathlib.Core.Path.{refl, _∙_}
 use lib.ListN.{length}
 use borrow.Author.Tests.{lt-ltb, le-ltb}
-use Rattle.pattern_text.specs.Bytes.{Bytes}
+use Rattle.pattern.proofs.Said.{said}
 use Rattle.record_text.specs.Text.{recordRefusal}
-use Rattle.record_read.specs.declared.Checked.{Checked}
-use Rattle.record_read.specs.Check.{checkedOf, checkedAs, checkNumber}
+use Rattle.record_read.specs.Check.{checkedAs}
 use Rattle.record_read.proofs.Numbers.{check-numbers}
 use Rattle.record_read.proofs.check.Statement.{statement}
 use Rattle.record_read.proofs.check.Tie as tie
 
--- the answer, and what it says in numbers
-told : (n : ℕ) (t : Bytes) (r : Checked) → r ≡ checkedOf (recordRefusal n t) → (r ≡ checkedOf (recordRefusal n t)) × (checkedAs r ≡ checkNumber n t)
-told n t r e = (e, ap checkedAs e ∙ check-numbers n t)
-
 returns : tie.Need-returns
 unfolding recordRefusal
 returns c =
-    let h : 16_384 < length (c .before .before .args .text .now) = omega (arith, c .if1 .taken) in
-    told (c .before .before .args .channels) (c .before .before .args .text .now) _ (rw (lt-ltb 16_384 (length (c .before .before .args .text .now)) h) refl)
+    let a = c .before .before .args in
+    let h : 16_384 < length (a .text .now) = omega (arith, c .if1 .taken) in
+    said checkedAs (check-numbers (a .channels) (a .text .now)) (rw (lt-ltb 16_384 (length (a .text .now)) h) refl)
 
 check-lines-requires : tie.Need-check-lines-requires
 check-lines-requires c κs = omega (arith, c .if1 .left)
@@ -32,7 +28,7 @@ returns-2 : tie.Need-returns-2
 unfolding recordRefusal
 returns-2 c =
     let a = c .before .before .before .before .args in
-    told (a .channels) (a .text .now) _ (rw (le-ltb 16_384 (length (a .text .now)) (c .before .before .if1 .left)) (c .finish .ensures ∙ c .before .check-lines .ensures))
+    said checkedAs (check-numbers (a .channels) (a .text .now)) (rw (le-ltb 16_384 (length (a .text .now)) (c .before .before .if1 .left)) (c .finish .ensures ∙ c .before .check-lines .ensures))
 
 pub check-spec : {M : Type 1} → statement M
 check-spec = tie.close (tie.spec returns check-lines-requires finish-requires returns-2)
