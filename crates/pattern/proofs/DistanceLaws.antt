@@ -52,10 +52,10 @@ pub distance-size : (t : Test) (v : ℤ) → SFits w32 v → SFits w32 (t .bound
 distance-size t v p q = by (t .sign)
   where
     by : (s : Sign) → natAbs (distanceFrom s (t .bound) v) < 2 ^ 32
-    by Less = sub-size (t .bound) v q p
-    by AtMost = sub-size (t .bound) v q p
-    by More = sub-size v (t .bound) p q
-    by AtLeast = sub-size v (t .bound) p q
+    by Less = omega (arith, sub-size (t .bound) v q p, sub-size v (t .bound) p q)
+    by AtMost = omega (arith, sub-size (t .bound) v q p, sub-size v (t .bound) p q)
+    by More = omega (arith, sub-size (t .bound) v q p, sub-size v (t .bound) p q)
+    by AtLeast = omega (arith, sub-size (t .bound) v q p, sub-size v (t .bound) p q)
 
 -- ---- a place's worth, test by test
 
