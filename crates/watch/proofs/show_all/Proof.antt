@@ -3,17 +3,18 @@ use Prim.Native.Nat.{_≤_}
 use native.Mathlib.Omega.{arith}
 use mathlib.Core.Path.{_≡_, refl, sym, _∙_}
 use borrow.Author.Tests.{not-true}
+use borrow.Author.Needs.{needs}
 use lib.ListN.{length}
 use Rattle.watch_steps.specs.Steps.{stepsLeft, Standing}
 use Rattle.watch.proofs.show_all.Statement.{statement}
 use Rattle.watch.proofs.show_all.Tie as tie
 
 abbrev Inv-loop : tie.InvT-loop
-Inv-loop text first₀ second₀ out₀ now₀ first second out now =
+Inv-loop text first₀ second₀ out₀ now₀ written₀ first second out now written =
     Standing text now first second × (4096 ≤ length out) × (length first ≡ length first₀) × (length second ≡ length second₀) × (length out ≡ length out₀)
 
 abbrev μ-loop : tie.MeasureT-loop
-μ-loop text first₀ second₀ out₀ now₀ first second out now = stepsLeft text now
+μ-loop text first₀ second₀ out₀ now₀ written₀ first second out now written = stepsLeft text now
 
 loop-holds : tie.Need-loop-holds Inv-loop μ-loop
 loop-holds c = let k = c .before .before .pre in (k .0, k .1, refl, refl, refl)
@@ -23,29 +24,38 @@ is-done-requires c κs = tt
 
 show-some-requires : tie.Need-show-some-requires Inv-loop μ-loop
 show-some-requires c κs =
-    let l = c .before .before .before .before .before .loop in
-    (l .inv .0, l .inv .1, sym (c .before .before .before .before .is-done .ensures) ∙ not-true (c .before .before .before .before .is-done .result) (c .before .before .before .if1 .taken))
+    let d = c .before .before .before .before in
+    (search needs, search needs, sym (d .is-done .ensures) ∙ not-true (d .is-done .result) (c .before .before .before .if1 .taken))
 
 loop-less : tie.Need-loop-less Inv-loop μ-loop
-loop-less c = c .before .before .before .before .show-some .ensures .1 .0
+loop-less c = search needs
 
 loop-again : tie.Need-loop-again Inv-loop μ-loop
-loop-again c =
-    let l = c .before .before .before .before .before .before .before .before .before .before .loop in
-    let o = c .before .before .before .before .show-some .ensures in
-    (o .0, (let e = o .1 .1 .2 in let h = l .inv .1 in omega arith), o .1 .1 .0 ∙ l .inv .2, o .1 .1 .1 ∙ l .inv .3, o .1 .1 .2 ∙ l .inv .4)
+loop-again c = (search needs, search needs, search needs, search needs, search needs)
 
 same-length : tie.Need-same-length Inv-loop μ-loop
-same-length c = c .before .before .loop .inv .2
+same-length c = search needs
 
 same-length-2 : tie.Need-same-length-2 Inv-loop μ-loop
-same-length-2 c = c .before .before .loop .inv .3
+same-length-2 c = search needs
 
 same-length-3 : tie.Need-same-length-3 Inv-loop μ-loop
-same-length-3 c = c .before .before .loop .inv .4
+same-length-3 c = search needs
 
 returns : tie.Need-returns Inv-loop μ-loop
 returns c = tt
+
+same-length-4 : tie.Need-same-length-4 Inv-loop μ-loop
+same-length-4 c = search needs
+
+same-length-5 : tie.Need-same-length-5 Inv-loop μ-loop
+same-length-5 c = search needs
+
+same-length-6 : tie.Need-same-length-6 Inv-loop μ-loop
+same-length-6 c = search needs
+
+returns-2 : tie.Need-returns-2 Inv-loop μ-loop
+returns-2 c = tt
 
 pub show-all-spec : {M : Type 1} → statement M
 show-all-spec =
@@ -61,4 +71,8 @@ show-all-spec =
     same-length
     same-length-2
     same-length-3
-    returns)
+    returns
+    same-length-4
+    same-length-5
+    same-length-6
+    returns-2)
