@@ -217,7 +217,8 @@ static int run(struct bench *b, FILE *record, const char *path)
     int byte;
 
     printf("end begin score\n");
-    fflush(stdout);
+    if (fflush(stdout) != 0)
+        return 2; /* main says so */
     while (record && (byte = getc(record)) != EOF) {
         uint32_t refusal;
 
@@ -230,7 +231,8 @@ static int run(struct bench *b, FILE *record, const char *path)
         refusal = read_piece(line, length, &piece) ? feed(b, &piece) : TEXT_BROKEN;
         if (refusal != CALL_DONE)
             return refused(refusal);
-        fflush(stdout); /* whoever watches the bench sees a piece's lines when it has come */
+        if (fflush(stdout) != 0) /* whoever watches the bench sees a piece's lines when it has come */
+            return 2;
         length = 0;
     }
     if (record && ferror(record))
