@@ -1,7 +1,5 @@
+-- `open` ends, since its turns are counted down.
 use borrow.Author.Needs.{needs}
-use mathlib.Core.Path.{_≡_}
-use Prim.Native.Nat.{_≤_}
-use lib.ListN.{length}
 use Rattle.files.proofs.open.Statement.{statement}
 use Rattle.files.proofs.open.Tie as tie
 

@@ -1,3 +1,4 @@
+-- `read_all` ends, since its turns are counted down, and what it has read stays within the buffer.
 use borrow.Author.Needs.{needs}
 use mathlib.Core.Path.{_≡_, sym}
 use Prim.Native.Nat.{_≤_}

@@ -1,5 +1,5 @@
+-- `write_out` ends, since its turns are counted down, and stays within the bytes.
 use borrow.Author.Needs.{needs}
-use mathlib.Core.Path.{_≡_}
 use Prim.Native.Nat.{_≤_}
 use lib.ListN.{length}
 use Rattle.files.proofs.write_out.Statement.{statement}
