@@ -12,7 +12,7 @@
  *     monitor_feed(text, length, state, MONITOR_STATE_LENGTH, first, cells, second, cells,
  *                  ticks, values, channels, scores, ticks, lengths, ticks);      once for each piece as it arrives
  *
- * The pattern text (document 01, the scope paper, has all of it)
+ * The pattern text (docs/MANUAL.md has all of it)
  *
  *     (pattern margin 1 1 1 4)          margin or sum; channels, 1 to 8; clocks, 0 to 4; the window's low and its high in
  *                                       ticks, 1 to 4095 and low to 4095

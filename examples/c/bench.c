@@ -9,7 +9,7 @@
  *
  * A refusal prints one line, as `refused 8`, and ends the program with status 1. Lines before it stay printed: a record
  * that is still arriving cannot be judged whole. What goes wrong outside of the monitor (no memory, a file that opens and
- * cannot be read, a wrong call of the program) is told on standard error, status 2. */
+ * cannot be read, lines that cannot be written, a wrong call of the program) is told on standard error, status 2. */
 #include <errno.h>
 #include <inttypes.h>
 #include <stdio.h>
@@ -48,6 +48,12 @@ static int fault(const char *what)
 {
     fprintf(stderr, "bench: %s\n", what);
     return 2;
+}
+
+/* Whether lines were lost. */
+static int lost(void)
+{
+    return fflush(stdout) != 0 || ferror(stdout);
 }
 
 static int refused(uint32_t number)
@@ -138,14 +144,14 @@ static void show(struct bench *b, int64_t ticks, uint32_t count)
     }
 }
 
-/* Feeds a piece, in parts if it is longer than one call takes: 0, or the refusal. */
+/* Feeds a piece, in parts if it is longer than one call takes: 0, or the refusal. No further part after lines that were lost. */
 static uint32_t feed(struct bench *b, const struct piece *p)
 {
     int64_t left = p->duration;
 
     if (p->out_of_range || left < 1 || left > TICKS_MAX)
         return RECORD_BROKEN;
-    while (left > 0) {
+    while (left > 0 && !ferror(stdout)) {
         uint32_t part = left > PIECE_TICKS_MAX ? PIECE_TICKS_MAX : (uint32_t)left;
         int64_t ticks = b->state[0];
         uint32_t refusal = monitor_feed(b->text, b->length, b->state, MONITOR_STATE_LENGTH, b->first, b->cells,
@@ -217,7 +223,7 @@ static int run(struct bench *b, FILE *record, const char *path)
     int byte;
 
     printf("end begin score\n");
-    if (fflush(stdout) != 0)
+    if (lost())
         return 2; /* main says so */
     while (record && (byte = getc(record)) != EOF) {
         uint32_t refusal;
@@ -231,7 +237,7 @@ static int run(struct bench *b, FILE *record, const char *path)
         refusal = read_piece(line, length, &piece) ? feed(b, &piece) : TEXT_BROKEN;
         if (refusal != CALL_DONE)
             return refused(refusal);
-        if (fflush(stdout) != 0) /* whoever watches the bench sees a piece's lines when it has come */
+        if (lost()) /* whoever watches the bench sees a piece's lines when it has come */
             return 2;
         length = 0;
     }
@@ -278,7 +284,7 @@ int main(int argc, char **argv)
         fclose(record);
     free(b.first);
     free(b.second);
-    if (fflush(stdout) != 0 || ferror(stdout))
+    if (lost())
         return fault("the lines could not be written");
     return status;
 }

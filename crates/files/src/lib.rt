@@ -1,6 +1,7 @@
 // A file in and lines out, over C's functions. A call that moves a part of what was asked, that a signal ends or that finds a
 // pipe not ready is gone on with. One that fails is told on standard error. No contract can say which bytes C moves: what is
 // proved is that the counts lie within the buffers and that each function ends.
+use libc::STDERR_FILENO;
 use libc::STDOUT_FILENO;
 ghost use Prim.Native.Nat.{_≤_};
 ghost use lib.ListN.{length};
@@ -107,17 +108,23 @@ struct Writing {
     failed: bool,
 }
 
-// One more write, of the bytes from a place on. One that takes nothing has failed.
+// One more write, of the bytes from a place on. One that takes nothing has failed, though C has no error for it.
 fn write_on(bytes: &[u8], at: usize) -> Writing
     requires { ⌜ at ≤ length (now bytes) ⌝ }
     ensures { λ r. ⌜ r .at ≤ length (now (bytes .entry)) ⌝ }
 {
     let rest = &bytes[at..];
     let got = libc::write(STDOUT_FILENO, rest);
-    let failed = got == 0 || got < 0 && !is_passing();
+    let failed = got < 0 && !is_passing();
+    if failed {
+        os::fail(b"standard output");
+    }
+    if got == 0 {
+        io::write_all(STDERR_FILENO, b"standard output: nothing is taken\n");
+    }
     Writing {
         at: at + io::count(got, rest),
-        failed: failed,
+        failed: failed || got == 0,
     }
 }
 
@@ -132,11 +139,7 @@ pub fn write_out(bytes: &[u8]) -> bool {
         writing = write_on(bytes, writing.at);
         turns -= 1;
     }
-    if writing.at < bytes.len() {
-        os::fail(b"standard output");
-        return false;
-    }
-    true
+    writing.at == bytes.len()
 }
 
 // The end of the output. Some file systems tell only here that a write failed.

@@ -6,10 +6,10 @@ use Rattle.files.proofs.write_out.Statement.{statement}
 use Rattle.files.proofs.write_out.Tie as tie
 
 abbrev Inv-loop : tie.InvT-loop
-Inv-loop bytes writing₀ turns₀ t4 writing turns = writing .at ≤ length bytes
+Inv-loop bytes writing₀ turns₀ writing turns = writing .at ≤ length bytes
 
 abbrev μ-loop : tie.MeasureT-loop
-μ-loop bytes writing₀ turns₀ t4 writing turns = turns
+μ-loop bytes writing₀ turns₀ writing turns = turns
 
 loop-holds : tie.Need-loop-holds Inv-loop μ-loop
 loop-holds c = search needs
@@ -26,17 +26,8 @@ loop-less c = search needs
 loop-again : tie.Need-loop-again Inv-loop μ-loop
 loop-again c = search needs
 
-slice-aggregate-fail : tie.Need-slice-aggregate-fail Inv-loop μ-loop
-slice-aggregate-fail c = search needs
-
-fail-requires : tie.Need-fail-requires Inv-loop μ-loop
-fail-requires c κs = search needs
-
 returns : tie.Need-returns Inv-loop μ-loop
 returns c = search needs
-
-returns-2 : tie.Need-returns-2 Inv-loop μ-loop
-returns-2 c = search needs
 
 pub write-out-spec : {M : Type 1} → statement M
 write-out-spec =
@@ -49,7 +40,4 @@ write-out-spec =
     sub-turns
     loop-less
     loop-again
-    slice-aggregate-fail
-    fail-requires
-    returns
-    returns-2)
+    returns)
