@@ -56,7 +56,7 @@ fn show_all(text: &[u8], w: Watch, first: &mut [i64], second: &mut [i64], out: &
 }
 
 // The lines for what was read: n bytes in the pattern's buffer, m in the record's. The sizes are those that show a text to be too
-// long (`watch_start/specs/Claims` BuffersSuffice).
+// long (`watch_start/specs/Claims` BuffersSuffice). Answers whether all were written.
 fn show(pattern: &[u8], n: usize, text: &[u8], m: usize) -> bool
     requires { ⌜ (length (now pattern) ≡ patternBuffer) × (Counts n (now pattern)) ⌝ }
     requires { ⌜ (length (now text) ≡ recordBuffer) × (Counts m (now text)) ⌝ }
@@ -72,12 +72,12 @@ fn show(pattern: &[u8], n: usize, text: &[u8], m: usize) -> bool
 fn main() {
     let mut pattern = [0u8; 8193];
     let mut record = [0u8; 16385];
-    let read = read_file(b"pattern.txt", &mut pattern);
-    let judged = read_file(b"record.txt", &mut record);
-    if !read.whole || !judged.whole {
+    let of_pattern = read_file(b"pattern.txt", &mut pattern);
+    let of_record = read_file(b"record.txt", &mut record);
+    if !of_pattern.whole || !of_record.whole {
         return;
     }
-    if show(&pattern, read.length, &record, judged.length) {
+    if show(&pattern, of_pattern.length, &record, of_record.length) {
         close_out();
     }
 }
