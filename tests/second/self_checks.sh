@@ -25,7 +25,7 @@ expect() {
     number=${known[${sums% *}]:-}
     for program in "$cases/scorer" "$watch"; do
         case $number,$program in
-        ,*) got=$("$program") || got="$got, status $?" ;;
+        ,*) got=$("$program" 2>/dev/null) || got="$got, status $?" ;;
         *scorer) got=$(cat "$cases/expected/$number") ;;
         *) got=$(cat "$cases/watched/$number") ;;
         esac
