@@ -1,6 +1,6 @@
 // A file in and lines out, over C's functions. A call that moves a part of what was asked, that a signal ends or that finds a
-// pipe not ready is gone on with. One that fails is told on standard error. No contract can say which bytes C moves: what is
-// proved is that the counts lie within the buffers and that each function ends.
+// pipe not ready is gone on with; the kit's `io` takes the last two as failures. One that fails is told on standard error. No
+// contract can say which bytes C moves: what is proved is that the counts lie within the buffers and that each function ends.
 use libc::STDERR_FILENO;
 use libc::STDOUT_FILENO;
 ghost use Prim.Native.Nat.{_≤_};
@@ -78,8 +78,8 @@ pub struct Taken {
     pub whole: bool,
 }
 
-// The file's bytes, as many as the buffer takes. A file that cannot be opened counts as empty, and so does a folder, which C opens
-// and then cannot read.
+// The file's bytes, as many as the buffer takes. A file that cannot be opened counts as empty, and so does a folder, which C
+// opens and then cannot read.
 pub fn read_file(path: &[u8], buffer: &mut [u8]) -> Taken
     ensures { λ r. ⌜ Counts (r .length) (now (buffer .exit)) ⌝ }
 {
