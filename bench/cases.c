@@ -11,23 +11,33 @@ static char text[PATTERN_TEXT_MAX + 1];
 
 /* ---- patterns */
 
-/* The reference goes from below 35 to above; then the velocity is over it by more than 3, then within 3 of it, all in
- * `bound` ticks from the change. Velocities are in hundredths. */
-const char *overshoot(const char *weighting, unsigned high, unsigned bound)
+/* The reference goes from below 35 to above; then the velocity is over it by more than 3, then within 3 of it, as the tests
+ * `within` say, all in `bound` ticks from the change. Velocities are in hundredths. */
+static const char *settling(const char *weighting, unsigned high, unsigned bound, const char *within)
 {
     snprintf(text, sizeof text,
              "(pattern %s 2 1 1 %u)\n"
              "(place start (< 0 3500))\n"
              "(place plain (> 0 3500))\n"
              "(place plain (> 0 3500) (> 1 300))\n"
-             "(place plain (> 0 3500) (> 1 -300) (< 1 300))\n"
+             "(place plain (> 0 3500) %s)\n"
              "(place end)\n"
              "(edge 0 1 (reset 0))\n"
              "(edge 1 2 (< 0 %u))\n"
              "(edge 2 3 (< 0 %u))\n"
              "(edge 3 4 (< 0 %u))\n",
-             weighting, high, bound, bound, bound);
+             weighting, high, within, bound, bound, bound);
     return text;
+}
+
+const char *overshoot(const char *weighting, unsigned high, unsigned bound)
+{
+    return settling(weighting, high, bound, "(> 1 -300) (< 1 300)");
+}
+
+const char *overshoot_band(const char *weighting, unsigned high, unsigned bound)
+{
+    return settling(weighting, high, bound, "(in 1 -300 300)");
 }
 
 /* The same without the bound, and so without the clock. */

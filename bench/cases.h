@@ -18,6 +18,7 @@ struct record {
 /* Pattern texts. Each is ended by a zero byte and lasts until the next call. `weighting` is "margin" or "sum", `high` the
  * window's high, the bounds those of the guards. */
 const char *overshoot(const char *weighting, unsigned high, unsigned bound);
+const char *overshoot_band(const char *weighting, unsigned high, unsigned bound); /* the same with a band for two tests */
 const char *unbounded(const char *weighting, unsigned high);
 const char *ringing(const char *weighting, unsigned high, unsigned bound, unsigned pause);
 const char *many_clocks(unsigned clocks, unsigned high, unsigned bound);

@@ -426,7 +426,7 @@ static size_t window_of(const char *text)
     return p.high;
 }
 
-/* After the source's experiments, both weightings each, and the four clocks of examples/gearbox. */
+/* After the source's experiments, both weightings each; a band; and the four clocks of examples/gearbox. */
 static void records(void)
 {
     static const char *const weightings[] = {"margin", "sum"};
@@ -448,6 +448,7 @@ static void records(void)
         time_record("record", name, 100, unbounded(weighting, 100), &cruise);
     }
     part.entries = part.ticks = 10000;
+    time_record("record", "OVERSHOOT with a band, margin", 30, overshoot_band("margin", 30, 15), &part);
     time_record("record", "OVERSHOOT unbounded, margin", 4095, unbounded("margin", 4095), &part);
     time_record("record", "gearbox, margin", window_of(gearbox("margin", 0)), gearbox("margin", 0), &gears);
     free_record(&cruise);
@@ -1197,7 +1198,7 @@ static void make_large(void)
 
     at += sprintf(at, "(pattern sum 8 4 1 128)\n");
     for (int i = 0; i < 16; i++)
-        at += sprintf(at, "(place %s (> 0 -5) (>= 3 -9) (< 5 9) (<= 7 3))\n", i == 0 ? "start" : i == 15 ? "end" : "both");
+        at += sprintf(at, "(place %s (> 0 -5) (in 3 -9 9) (< 5 9) (<= 7 3))\n", i == 0 ? "start" : i == 15 ? "end" : "both");
     for (int i = 0; i < 32; i++)
         at += sprintf(at, "(edge %d %d (<= 0 2) (>= 1 1) (< 2 3) (> 3 0) (reset 0 1 2 3))\n", i % 16, (i * 7 + 1) % 16);
     large_length = (size_t)(at - (char *)large_text);

@@ -36,15 +36,21 @@ static inline int holds(enum sign sign, size_t clock, size_t bound)
     }
 }
 
+/* A test's distance: to the nearer of its ends, and negative outside of them. */
+static int64_t distance_of(const struct plain_test *t, int64_t value)
+{
+    int64_t above = value - t->low, below = t->high - value;
+
+    return above < below ? above : below;
+}
+
 /* What a place is worth for these values: the sum of its tests' distances, or the least of them. */
 static int64_t gain(int sum, const struct plain_place *q, const int32_t *values)
 {
     int64_t worth = sum ? 0 : SCORE_WITHOUT_TESTS;
 
     for (int i = 0; i < q->tests; i++) {
-        const struct plain_test *t = &q->test[i];
-        int64_t value = values[t->channel];
-        int64_t distance = t->sign == LESS || t->sign == AT_MOST ? t->bound - value : value - t->bound;
+        int64_t distance = distance_of(&q->test[i], values[q->test[i].channel]);
 
         if (sum)
             worth += distance;

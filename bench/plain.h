@@ -13,10 +13,13 @@ enum { PLACES = 16, EDGES = 32, PARTS = 4, CLOCKS = 4 };
 
 enum sign { LESS, AT_MOST, MORE, AT_LEAST };
 
+#define FAR INT64_C(10000000) /* further from every value than a bound can be */
+
+/* A test says between which ends a value should lie. A sign has one bound, and the other end is FAR; strict signs measure
+ * like the others. */
 struct plain_test {
-    enum sign sign;
     int channel;
-    int64_t bound;
+    int64_t low, high;
 };
 
 struct plain_place {

@@ -41,10 +41,23 @@ static int sign(const char **at, enum sign *s)
     return 1;
 }
 
+/* Moves past a test, with a sign or a band; 0 if there is none. */
+static int read_test(const char **at, struct plain_test *t)
+{
+    int band = word(at, " (in ");
+    enum sign s = LESS;
+
+    if (!band && !sign(at, &s))
+        return 0;
+    t->channel = (int)number(at);
+    t->low = band || s == MORE || s == AT_LEAST ? number(at) : -FAR;
+    t->high = band || s == LESS || s == AT_MOST ? number(at) : FAR;
+    word(at, ")");
+    return 1;
+}
+
 static void read_place(const char **at, struct plain_place *q)
 {
-    enum sign s;
-
     if (word(at, "both"))
         q->start = q->end = 1;
     else if (word(at, "start"))
@@ -53,14 +66,8 @@ static void read_place(const char **at, struct plain_place *q)
         q->end = 1;
     else
         word(at, "plain");
-    while (sign(at, &s)) {
-        struct plain_test *t = &q->test[q->tests++];
-
-        t->sign = s;
-        t->channel = (int)number(at);
-        t->bound = number(at);
-        word(at, ")");
-    }
+    while (read_test(at, q->test + q->tests))
+        q->tests++;
 }
 
 static void read_edge(const char **at, struct plain_edge *e)

@@ -17,21 +17,23 @@
  *     (pattern margin 1 1 1 4)          margin or sum; channels, 1 to 8; clocks, 0 to 4; the window's low and its high in
  *                                       ticks, 1 to 4095 and low to 4095
  *     (place start (< 0 15))            1 to 16 places: start, plain, end or both (start and end), then 0 to 4 tests: a sign
- *     (place plain (> 0 5))             <, <=, > or >=, a channel, a bound from -1000000 to 1000000
- *     (place end)
+ *     (place plain (> 0 5))             <, <=, > or >=, a channel, a bound from -1000000 to 1000000; or a band, as
+ *     (place end)                       (in 0 -5 5): a channel, a low and a high in a bound's range, low not above high
  *     (edge 0 1 (< 0 3) (reset 0))      0 to 32 edges: from place, to place, then 0 to 4 guards: a sign, a clock, a bound from
  *     (edge 1 2 (<= 0 2))               0 to 1000; then the clocks that it resets, rising, or no such bracket
  *
  *   - One form a line in this order, single spaces exactly as shown, each line ended by a line feed, the last one too. Numbers
- *     have no leading zero and no sign but the minus of a test's bound. Places, edges, channels and clocks count from 0.
+ *     have no leading zero and no sign but the minus of a test's bound, low or high. Places, edges, channels and clocks count
+ *     from 0.
  *   - Time is counted in ticks. A record says which value each channel has at each tick, as pieces: a duration and its values.
  *   - A run enters a start place at its begin, with all clocks at 0. It goes in steps: it stays in its place for at least 1
  *     tick, while all clocks grow; then it takes an edge out of that place whose guards all hold of the clocks; then the
  *     edge's resets set clocks to 0. It ends where its last edge enters an end place. Its length is its end less its begin.
- *   - A test's distance is the value less the bound for > and >=, the bound less the value for < and <=; it may be negative.
- *     In `margin` a run is worth the least distance of its stays' tests over the pieces that they touch, and the best run is
- *     the one with the greatest score. In `sum` a run is worth all distances added, once for each piece that a stay touches,
- *     and the best run is the one with the least score. Neighbouring pieces with equal values are one piece.
+ *   - A test's distance is the value less the bound for > and >=, the bound less the value for < and <=, and for a band the
+ *     smaller of the value less the low and the high less the value; it may be negative. In `margin` a run is worth the least
+ *     distance of its stays' tests over the pieces that they touch, and the best run is the one with the greatest score. In
+ *     `sum` a run is worth all distances added, once for each piece that a stay touches, and the best run is the one with the
+ *     least score. Neighbouring pieces with equal values are one piece.
  *   - Only runs whose length is in the window, from its low to its high, count for monitor_feed and record_best.
  *   - The host knows the weighting and the channels from the text's first line: no function tells them.
  *
@@ -65,7 +67,7 @@ enum {
     TEXT_TOO_LONG = 1,         /* over PATTERN_TEXT_MAX bytes */
     TEXT_BROKEN = 2,           /* the form is broken: also empty text, a missing line feed, a line of the wrong kind,
                                   no place at all */
-    PATTERN_OUT_OF_RANGE = 3,  /* a number outside its range */
+    PATTERN_OUT_OF_RANGE = 3,  /* a number outside its range, or a band's low above its high */
     PATTERN_TOO_MANY = 4,      /* a place, edge, test or guard too many */
     PATTERN_UNKNOWN_INDEX = 5, /* an index that the pattern lacks, or a reset not above the one before it */
 

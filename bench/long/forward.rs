@@ -1,4 +1,4 @@
-//! A forward search for what `watch` prints, written from document 01: forward DIR.
+//! A forward search for what `watch` prints, written from documents 01 and 02: forward DIR.
 //!
 //! Each begin is searched alone, tick by tick, over the states a run may be in: its place, whether it has just entered or
 //! stays, and its clocks, held one above the paper's ceiling so that nothing rests on that. A state keeps the best worth that
@@ -8,10 +8,13 @@ use std::fmt::Write;
 
 const FREE: i64 = 2_000_001;
 
+/// A test or a guard: a sign or `in`, a channel or a clock, a bound or a band's two.
+type Bounded = (String, usize, Vec<i64>);
+
 struct Edge {
     from: usize,
     to: usize,
-    guards: Vec<(String, usize, i64)>,
+    guards: Vec<Bounded>,
     resets: Vec<usize>,
 }
 
@@ -32,20 +35,21 @@ fn main() {
     let folder = std::env::args().nth(1).unwrap_or_else(|| ".".into());
     let read = |name: &str| std::fs::read_to_string(format!("{folder}/{name}")).unwrap();
     let (mut sum, mut clocks, mut low, mut high) = (false, 0, 0, 0);
-    let mut places: Vec<(String, Vec<(String, usize, i64)>)> = Vec::new();
+    let mut places: Vec<(String, Vec<Bounded>)> = Vec::new();
     let mut edges: Vec<Edge> = Vec::new();
     for line in read("pattern.txt").lines() {
         // the outer words, then a bracket each
         let parts: Vec<&str> = line[1..line.len() - 1].split(" (").collect();
         let words: Vec<&str> = parts[0].split(' ').collect();
-        let mut triples = Vec::new();
+        let mut bounded: Vec<Bounded> = Vec::new();
         let mut resets = Vec::new();
         for part in &parts[1..] {
             let inner: Vec<&str> = part.trim_end_matches(')').split(' ').collect();
             if inner[0] == "reset" {
                 resets = inner[1..].iter().map(|word| number(word)).collect();
             } else {
-                triples.push((inner[0].to_string(), number(inner[1]), number(inner[2])));
+                let bounds = inner[2..].iter().map(|word| number(word)).collect();
+                bounded.push((inner[0].to_string(), number(inner[1]), bounds));
             }
         }
         match words[0] {
@@ -53,8 +57,8 @@ fn main() {
                 sum = words[1] == "sum";
                 (clocks, low, high) = (number::<usize>(words[3]), number::<usize>(words[4]), number::<usize>(words[5]));
             }
-            "place" => places.push((words[1].to_string(), triples)),
-            _ => edges.push(Edge { from: number(words[1]), to: number(words[2]), guards: triples, resets }),
+            "place" => places.push((words[1].to_string(), bounded)),
+            _ => edges.push(Edge { from: number(words[1]), to: number(words[2]), guards: bounded, resets }),
         }
     }
     let mut ticks: Vec<Vec<i64>> = Vec::new();
@@ -66,7 +70,7 @@ fn main() {
 
     // the states of place and clocks, and where an edge leads after one more tick
     let most: Vec<i64> = (0..clocks)
-        .map(|clock| 2 + edges.iter().flat_map(|edge| &edge.guards).filter(|guard| guard.1 == clock).map(|guard| guard.2).max().unwrap_or(0))
+        .map(|clock| 2 + edges.iter().flat_map(|edge| &edge.guards).filter(|guard| guard.1 == clock).map(|guard| guard.2[0]).max().unwrap_or(0))
         .collect();
     let states: usize = places.len() * most.iter().map(|most| *most as usize + 1).product::<usize>();
     let index = |place: usize, values: &[i64]| {
@@ -85,7 +89,7 @@ fn main() {
         place_of[state] = rest;
         grown[state] = index(rest, &later);
         for edge in edges.iter().filter(|edge| edge.from == rest) {
-            if edge.guards.iter().all(|(sign, clock, bound)| holds(sign, later[*clock], *bound)) {
+            if edge.guards.iter().all(|(sign, clock, bounds)| holds(sign, later[*clock], bounds[0])) {
                 let after: Vec<i64> = (0..clocks).map(|clock| if edge.resets.contains(&clock) { 0 } else { later[clock] }).collect();
                 targets[state].push(index(edge.to, &after));
             }
@@ -103,8 +107,13 @@ fn main() {
     };
     // what each place adds, or takes the least with, at each tick
     let price = |place: usize, values: &[i64]| -> i64 {
-        let distance = |(sign, channel, bound): &(String, usize, i64)| {
-            if sign.starts_with('>') { values[*channel] - bound } else { bound - values[*channel] }
+        let distance = |(sign, channel, bounds): &Bounded| {
+            let over = |bound: i64| values[*channel] - bound;
+            match sign.as_str() {
+                ">" | ">=" => over(bounds[0]),
+                "in" => over(bounds[0]).min(-over(bounds[1])),
+                _ => -over(bounds[0]),
+            }
         };
         let distances = places[place].1.iter().map(distance);
         if sum { distances.sum() } else { distances.min().unwrap_or(FREE) }

@@ -1,8 +1,8 @@
 #!/usr/bin/env python3
 """Makes the cases of the long measure: make.py OUT writes OUT/NAME/pattern.txt, record.txt and about.txt.
 
-The same bytes each time. Every pattern needs 2,048 cells, has 32 edges and a run at every end from the window's low on; the record has 1,300 pieces,
-none of which join, and 100,000 ticks.
+The same bytes each time. Every pattern needs 2,048 cells, has 32 edges, a band in each place and a run at every end from the
+window's low on; the record has 1,300 pieces, none of which join, and 100,000 ticks.
 """
 
 import os
@@ -63,12 +63,14 @@ def patterns():
 
 
 def text(weighting, clocks, high, places, edges):
-    choose = random.Random(3)
+    """Each place has three tests by a sign and a band."""
+    choose, bands = random.Random(3), random.Random(4)
     # with a low of 1 no longer run could be best in margin
     lines = [f"(pattern {weighting} 1 {clocks} {(high + 1) // 2} {high})"]
     for _ in range(places):
         tests = [(choose.choice(list(SIGNS)), choose.randint(-9, 30)) for _ in range(3)]
-        lines.append("(place both" + "".join(f" ({sign} 0 {bound})" for sign, bound in tests) + ")")
+        ends = sorted(bands.randint(-9, 30) for _ in range(2))
+        lines.append("(place both" + "".join(f" ({sign} 0 {bound})" for sign, bound in tests) + f" (in 0 {ends[0]} {ends[1]}))")
     for start, to, guards, resets in edges:
         line = f"(edge {start} {to}" + "".join(f" ({sign} {clock} {bound})" for sign, clock, bound in guards)
         lines.append(line + (f" (reset {' '.join(map(str, resets))})" if resets else "") + ")")

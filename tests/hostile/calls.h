@@ -33,7 +33,13 @@ enum { EMPTY, ONE_SHORT, ONE_LONG, SHAPES };
 
 static const char *const shape_names[] = {"empty", "one short", "one long"};
 
+/* where a value lies that a band measures; at both ends if these are equal */
+enum { BELOW, AT_LOW, INSIDE, AT_HIGH, ABOVE, AT_BOTH, SIDES };
+
+static const char *const side_names[] = {"below", "at low", "inside", "at high", "above", "at both"};
+
 static uint64_t calls, compared, seen[FUNCTIONS][16], shaped[FUNCTIONS][SLICES][SHAPES];
+static uint64_t measured[2][SIDES]; /* by bands, in feeds that are compared: in margin, in sum */
 static uint64_t round_seed;
 static int failures;
 
@@ -318,8 +324,8 @@ static uint32_t record_cause(int function, int channels, uint64_t *ticks)
 
 /* ---- a library that errs in one way, if `wrong` is not 0: the checks below must notice it */
 
-#define WRONG 19
-#define WRONG_FOR_SCORER 20 /* an error that only the second scorer's answers show */
+#define WRONG 21
+#define WRONG_FOR_SCORER 22 /* an error that the second scorer's answers must show */
 
 static int wrong;
 static uint64_t needed; /* cells of the pattern */
@@ -327,6 +333,33 @@ static uint64_t needed; /* cells of the pattern */
 static uint32_t twisted(uint32_t r)
 {
     return wrong == WRONG_FOR_SCORER && r == PATTERN_OUT_OF_RANGE ? PATTERN_TOO_MANY : r;
+}
+
+/* The lent text if it is refused, and else with each band as a test of its low alone. */
+static const uint8_t *low_alone(size_t *length)
+{
+    static uint8_t other[PATTERN_TEXT_MAX];
+    const uint8_t *at = text.at, *end = at + text.count;
+    int numbers = 0; /* of a band, up to here */
+
+    *length = text.count;
+    if (pattern_check(at, text.count) != 0)
+        return at;
+    *length = 0;
+    for (; at < end; at++) {
+        if (end - at > 5 && memcmp(at, " (in ", 5) == 0) {
+            memcpy(other + *length, " (>= ", 5);
+            *length += 5;
+            at += 5;
+            numbers = 1;
+        }
+        numbers += numbers != 0 && *at == ' ';
+        if (*at == ')')
+            numbers = 0;
+        if (numbers < 3)
+            other[(*length)++] = *at;
+    }
+    return other;
 }
 
 static uint32_t check_lent(void)
@@ -359,9 +392,11 @@ static uint32_t open_lent(void)
 
 static uint32_t feed_lent(uint32_t duration)
 {
-    uint32_t r = twisted(monitor_feed(text.at, text.count, state.at, state.count, first.at, first.count, second.at,
-                                      second.count, duration, values.at, values.count, scores.at, scores.count,
-                                      lengths.at, lengths.count));
+    size_t length = text.count;
+    const uint8_t *bytes = wrong == 20 ? low_alone(&length) : text.at; /* a band's high without a say */
+    uint32_t r = twisted(monitor_feed(bytes, length, state.at, state.count, first.at, first.count, second.at, second.count,
+                                      duration, values.at, values.count, scores.at, scores.count, lengths.at,
+                                      lengths.count));
 
     if (wrong == 3 && r != 0 && state.count != 0)
         ((int64_t *)state.at)[0] ^= 1; /* the state written at a refusal */
@@ -388,8 +423,10 @@ static uint32_t feed_lent(uint32_t duration)
 
 static struct run_price price_lent(uint32_t begin)
 {
-    struct run_price a = run_price(text.at, text.count, durations.at, durations.count, values.at, values.count, begin,
-                                   edges.at, edges.count, stays.at, stays.count);
+    size_t length = text.count;
+    const uint8_t *bytes = wrong == 21 ? low_alone(&length) : text.at; /* the same in a price */
+    struct run_price a = run_price(bytes, length, durations.at, durations.count, values.at, values.count, begin, edges.at,
+                                   edges.count, stays.at, stays.count);
 
     a.refusal = twisted(a.refusal);
     if (wrong == 11 && a.refusal == 0)
@@ -489,6 +526,27 @@ static int alike(const struct lent *l, const void *other)
     return memcmp(l->at, other, l->count * l->width) == 0;
 }
 
+/* Counts where the piece's values lie that bands measure. */
+static void count_bands(void)
+{
+    const int32_t *value = values.at;
+
+    for (int q = 0; q < plain.places; q++)
+        for (int i = 0; i < plain.place[q].tests; i++) {
+            const struct plain_test *t = &plain.place[q].test[i];
+            int64_t v = value[t->channel];
+
+            if (t->low == -FAR || t->high == FAR)
+                continue;
+            measured[plain.sum][v < t->low          ? BELOW
+                                : v > t->high       ? ABOVE
+                                : t->low == t->high ? AT_BOTH
+                                : v == t->low       ? AT_LOW
+                                : v == t->high      ? AT_HIGH
+                                                    : INSIDE]++;
+        }
+}
+
 static uint32_t call_feed(const struct known *k, uint32_t duration)
 {
     uint32_t cause = feed_cause(k, duration), refusal;
@@ -531,6 +589,7 @@ static uint32_t call_feed(const struct known *k, uint32_t duration)
     expect(fine, "the reports change inside of a long piece");
     if (beside) {
         compared++;
+        count_bands();
         expect(alike(&state, plain_state) && alike(&first, plain_first) && alike(&second, plain_second),
                "the plain monitor's state or tables differ");
         expect(alike(&scores, plain_scores) && alike(&lengths, plain_lengths), "the plain monitor's reports differ");
@@ -587,7 +646,7 @@ static struct record_best call_best(const struct known *k)
     return answer;
 }
 
-/* What is known of the text that is lent; `p` is the pattern that it says, if it is a sound one. */
+/* What is known of the text that is lent; `p` is the pattern that it says, if that is known. */
 static struct known know(const struct pattern *p)
 {
     static char copy[PATTERN_TEXT_MAX + 1];
@@ -603,7 +662,7 @@ static struct known know(const struct pattern *p)
         expect(k.cells == plain.cells, "the plain monitor's count of cells");
     }
     if (p) {
-        expect(k.refusal == 0, "a sound text is refused");
+        expect(k.refusal == p->refusal, p->refusal == 0 ? "a sound text is refused" : "the refusal of a text with an odd band");
         expect(k.cells == p->cells, "the count of cells");
     }
     return k;

@@ -15,8 +15,8 @@
  *     feeds between, must tell and hold the same; the best of the record must be the best that was told; and for small
  *     ones every run is laid out and priced: each report must be the best price of all runs in the window with that end,
  *     and the least length that has it.
- * The last line is `N passed, M failed`: the rounds. Each refusal of each function, and each way in which a slice can be too
- * short or too long, must occur; one that does not is a failure more. */
+ * The last line is `N passed, M failed`: the rounds. Each refusal of each function, each way in which a slice can be too
+ * short or too long, and each side of a band must occur; one that does not is a failure more. */
 #define _DEFAULT_SOURCE
 #include "calls.h"
 
@@ -102,6 +102,8 @@ static void single(void)
         make_fitting(&p);
     if (damaged)
         damage(&p);
+    else if (once(8))
+        add_odd_band(&p);
     lend_text(p.text, p.length);
     k = know(damaged ? NULL : &p);
     switch (between(0, 5)) {
@@ -443,6 +445,23 @@ static void round_of(uint64_t number)
         bench();
 }
 
+/* How often values lay on each side of bands; how many sides are rare. */
+static int rare_sides(const char *weighting, const uint64_t *times)
+{
+    int rare = 0;
+
+    printf("bands, %-6s", weighting);
+    for (int n = 0; n < SIDES; n++)
+        printf(" %s:%" PRIu64, side_names[n], times[n]);
+    printf("\n");
+    for (int n = 0; n < SIDES; n++)
+        if (times[n] < 20) {
+            rare++;
+            printf("FAILED: bands in %s, a value %s only %" PRIu64 " times\n", weighting, side_names[n], times[n]);
+        }
+    return rare;
+}
+
 int main(int argc, char **argv)
 {
     /* which numbers document 01 names for each function; of the count, 0 for a refused text and 1 for cells */
@@ -536,6 +555,7 @@ int main(int argc, char **argv)
                            shaped[f][(int)*s][n]);
                 }
     }
+    failed += rare_sides("margin", measured[0]) + rare_sides("sum", measured[1]);
     if (compared < 10000) {
         failed++;
         printf("FAILED: too few feeds beside the plain monitor\n");

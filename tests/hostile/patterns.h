@@ -1,4 +1,4 @@
-/* patterns.h: random pattern texts, sound ones and damaged ones, and what is known of a sound one. */
+/* patterns.h: random pattern texts: sound ones and ones with an odd band, and what is known of them; damaged ones. */
 #ifndef PATTERNS_H
 #define PATTERNS_H
 
@@ -12,8 +12,9 @@ struct pattern {
     uint8_t text[TEXT_ROOM];
     size_t length;
     int sum, channels, clocks, low, high, places, edges;
-    int start[16], end[16], from[32], to[32];
-    uint64_t cells; /* by document 01's formula */
+    int start[16], end[16], tests[16], from[32], to[32];
+    uint32_t refusal; /* of the text: 0, or what an odd band is refused with */
+    uint64_t cells;   /* by document 01's formula, 0 beside a refusal */
 };
 
 /* ---- draws: splitmix64, the same for the same seed everywhere */
@@ -61,13 +62,35 @@ static void add(struct pattern *p, const char *form, ...)
 
 static const char *const signs[] = {"<", "<=", ">", ">="};
 
+/* Which tests are bands: none, one in two, or all, with as many in each place as there may be. */
+enum { NO_BANDS, SOME_BANDS, ALL_BANDS };
+
+/* Any ends, equal ones, and ends at the limits of their range, where equal ones can stand too. */
+static void add_band(struct pattern *p, int channel, int most)
+{
+    int low = (int)(once(6) ? -1000000 : once(20) ? 1000000 : between(-most, most));
+    int high = (int)(low >= most || once(4) ? low : once(5) ? 1000000 : between(low, most));
+
+    add(p, " (in %d %d %d)", channel, low, high);
+}
+
+static void add_test(struct pattern *p, int bands, int most)
+{
+    int channel = (int)between(0, p->channels - 1);
+
+    if (bands == ALL_BANDS || (bands == SOME_BANDS && once(2)))
+        add_band(p, channel, most);
+    else
+        add(p, " (%s %d %d)", signs[between(0, 3)], channel, (int)between(-most, most));
+}
+
 /* Small: tables of a few hundred cells and few runs. Middle: many clocks or a wide window. Large: anything that a text can
  * say. */
 enum { SMALL, MIDDLE, LARGE };
 
 static void make_pattern(struct pattern *p, int size)
 {
-    int large = size == LARGE, middle = size == MIDDLE;
+    int large = size == LARGE, middle = size == MIDDLE, bands = (int)between(NO_BANDS, ALL_BANDS);
     static const char *const kinds[] = {"start", "plain", "end", "both"};
     int largest[4] = {-1, -1, -1, -1};
 
@@ -89,10 +112,10 @@ static void make_pattern(struct pattern *p, int size)
             kind = i == 0 ? 3 : once(2) ? 2 : 3;
         p->start[i] = kind == 0 || kind == 3;
         p->end[i] = kind >= 2;
+        p->tests[i] = bands == ALL_BANDS ? 4 : (int)between(0, large ? 4 : 2);
         add(p, "(place %s", kinds[kind]);
-        for (int64_t t = between(0, large ? 4 : 2); t > 0; t--)
-            add(p, " (%s %d %d)", signs[between(0, 3)], (int)between(0, p->channels - 1),
-                (int)(large ? between(-1000000, 1000000) : between(-20, 20)));
+        for (int t = 0; t < p->tests[i]; t++)
+            add_test(p, bands, large ? 1000000 : 20);
         add(p, ")\n");
     }
     for (int i = 0; i < p->edges; i++) {
@@ -150,7 +173,7 @@ static void damage(struct pattern *p)
                                           "1000001", "4096", "65536", "256", "16", "9", "-", "00"};
     static const char *const lines[] = {"(place both)\n", "(edge 0 0)\n", "(edge 15 0)\n", "(edge 0 0 (< 3 5))\n",
                                         "(edge 0 0 (reset 0 0))\n", "(edge 0 0 (reset 1 0))\n", "(place plain (< 7 1))\n",
-                                        "\n", "(piece 1 1)\n"};
+                                        "(place plain (in 7 0 1))\n", "(edge 0 0 (in 0 0 1))\n", "\n", "(piece 1 1)\n"};
     size_t at = p->length == 0 ? 0 : (size_t)(draw() % (p->length + 1));
     const char *word;
 
@@ -180,7 +203,7 @@ static void damage(struct pattern *p)
         insert(p, digit(p), "7", 1);
         break;
     case 6: /* lines more */
-        word = lines[between(0, 8)];
+        word = lines[between(0, 10)];
         for (int64_t n = between(1, 40); n > 0; n--)
             insert(p, p->length, word, strlen(word));
         break;
@@ -189,10 +212,11 @@ static void damage(struct pattern *p)
             p->text[p->length++] = (uint8_t)(once(2) ? '0' : draw());
         break;
     case 8: /* tests or guards too many */
+        word = once(2) ? " (< 0 1) (< 0 1) (< 0 1) (< 0 1) (< 0 1)" : " (in 0 0 1) (in 0 0 1) (in 0 0 1) (in 0 0 1) (in 0 0 1)";
         for (size_t i = 0; i + 1 < p->length; i++)
             if (p->text[i] == ')' && p->text[i + 1] == '\n' && once(3)) {
-                insert(p, i, " (< 0 1) (< 0 1) (< 0 1) (< 0 1) (< 0 1)", 40);
-                i += 40;
+                insert(p, i, word, strlen(word));
+                i += strlen(word);
             }
         break;
     default: /* noise */
@@ -200,6 +224,73 @@ static void damage(struct pattern *p)
         for (size_t i = 0; i < p->length; i++)
             p->text[i] = (uint8_t)draw();
     }
+}
+
+/* ---- a sound text with a band more, broken or one too many */
+
+static const struct {
+    const char *band;
+    uint32_t refusal; /* in a place that has fewer than four tests */
+} odd_bands[] = {
+    {" (in 0 -7 7)", 0},
+    {" (in 0 7)", 2},
+    {" (in 0 7 8 9)", 2},
+    {" (in)", 2},
+    {" (In 0 7 8)", 2},
+    {" (inside 0 7 8)", 2},
+    {" (in 0 -0 8)", 2},
+    {" (in 0 -8 -0)", 2},
+    {" (in 0 +7 8)", 2},
+    {" (in 0 07 8)", 2},
+    {" (in -0 7 8)", 2},
+    {" (in 0  7 8)", 2},
+    {" (in 0 7 8 )", 2},
+    {"(in 0 7 8)", 2},
+    {" (in 0 8 7", 2},
+    {" (in 0 8 7)", 3},
+    {" (in 0 -7 -8)", 3},
+    {" (in 0 1000000 -1000000)", 3},
+    {" (in 0 1000001 1000001)", 3},
+    {" (in 0 -1000001 -1000001)", 3},
+    {" (in 0 7 1000001)", 3},
+    {" (in 0 -1000001 7)", 3},
+    {" (in 0 4294967303 8)", 3}, /* 2^32 + 7 */
+    {" (in 0 7 18446744073709551624)", 3}, /* 2^64 + 8 */
+    {" (in 8 8 7)", 3},
+    {" (in 8 7 1000001)", 3},
+    {" (in 8 7 8)", 5},
+    {" (in 256 7 8)", 5},
+    {" (in 4294967296 7 8)", 5},
+};
+
+/* Where the last bracket of a line stands. */
+static size_t last_bracket(const struct pattern *p, int line)
+{
+    size_t at = 0;
+
+    while (line > 0)
+        line -= p->text[at++] == '\n';
+    while (p->text[at] != '\n')
+        at++;
+    return at - 1;
+}
+
+/* Puts a band behind a place's tests, or into an edge, where none may stand. */
+static void add_odd_band(struct pattern *p)
+{
+    size_t i = draw() % (sizeof odd_bands / sizeof *odd_bands);
+    int place = (int)between(0, p->places - 1), line = 1 + place;
+
+    p->refusal = odd_bands[i].refusal;
+    if (p->refusal != 2 && p->tests[place] == 4)
+        p->refusal = 4;
+    if (p->edges != 0 && once(6)) {
+        line = 1 + p->places + (int)between(0, p->edges - 1);
+        p->refusal = 2;
+    }
+    if (p->refusal != 0)
+        p->cells = 0;
+    insert(p, last_bracket(p, line), odd_bands[i].band, strlen(odd_bands[i].band));
 }
 
 #endif

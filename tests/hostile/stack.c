@@ -94,17 +94,18 @@ static void add(const char *line)
     length += strlen(line);
 }
 
-/* the longest of everything but the window and the bounds: 16 places with four tests each, 32 edges with four guards and
- * all resets */
+/* the longest of everything but the window and the bounds: 16 places with four tests each, of every sign or bands, 32 edges
+ * with four guards and all resets; a run stays in the first two places */
 static void write_text(const char *window)
 {
     length = 0;
     add("(pattern sum 8 4 1 ");
     add(window);
     add(")\n");
-    for (int i = 0; i < 16; i++)
-        add(i < 2 ? "(place both (> 0 -5) (>= 1 -9) (< 2 9) (<= 7 3))\n"
-                  : "(place plain (> 3 -5) (>= 4 -9) (< 5 9) (<= 6 3))\n");
+    add("(place both (> 0 -5) (>= 1 -9) (< 2 9) (<= 7 3))\n"
+        "(place both (in 0 -5 5) (in 1 -9 9) (in 2 -9 9) (in 7 -3 3))\n");
+    for (int i = 2; i < 16; i++)
+        add("(place plain (in 3 -5 5) (>= 4 -9) (in 5 -9 9) (<= 6 3))\n");
     for (int i = 0; i < 16; i++)
         add("(edge 0 1 (>= 0 1) (> 1 0) (>= 2 1) (<= 3 1) (reset 0 1 2 3))\n"
             "(edge 1 0 (<= 3 1) (>= 2 1) (> 1 0) (>= 0 1) (reset 0 1 2 3))\n");

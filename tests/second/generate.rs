@@ -225,6 +225,8 @@ fn cut_anew(random: &mut Random, record: &Record) -> Record {
     cut
 }
 
+type Maker = fn(&mut Random) -> (Pattern, Record);
+
 /// The most steps that the listing of a case's runs may take.
 const COST: f64 = 6_000.0;
 
@@ -631,9 +633,10 @@ fn faulty_record(random: &mut Random, record: &Record, channels: usize) -> (Vec<
     (lines, if two { "2" } else { "8" })
 }
 
+const ALPHABET: &[u8] = b"()()<=>-- 00123456789\n\n\r\tpaelcsu+\0\xff";
+
 /// One change of a text, blind to its meaning.
-fn change(random: &mut Random, text: &mut Vec<u8>) {
-    let alphabet = b"()()<=>-- 00123456789\n\n\r\tpaelcsu+\0\xff";
+fn change(random: &mut Random, alphabet: &[u8], text: &mut Vec<u8>) {
     if text.is_empty() {
         text.push(alphabet[random.below(alphabet.len())]);
         return;
@@ -702,7 +705,6 @@ fn random_cases(random: &mut Random, cases: &mut Cases) {
             }
         }
     }
-    type Maker = fn(&mut Random) -> (Pattern, Record);
     let makers: [(&str, usize, Maker); 4] =
         [("chain", 100, chain), ("timed", 250, timed), ("wide", 60, wide), ("costly", 60, costly)];
     for (kind, count, maker) in makers {
@@ -793,11 +795,16 @@ fn faulty_cases(random: &mut Random, cases: &mut Cases) {
         let mut record_text = text(&record_lines(&record)).into_bytes();
         let changed = if turn % 2 == 0 { &mut pattern_text } else { &mut record_text };
         for _ in 0..few(random, [0, 60, 25, 15, 0]) {
-            change(random, changed);
+            change(random, ALPHABET, changed);
         }
         let kind = if turn % 2 == 0 { "changed-pattern" } else { "changed-record" };
         cases.add(kind, "-", pattern_text, record_text);
     }
+}
+
+/// The text with as many digits for its `@` as it takes to have this size.
+fn padded(text: &str, size: usize) -> String {
+    text.replacen('@', &"9".repeat(size + 1 - text.len()), 1)
 }
 
 /// Cases by hand: the paper's edge values and their neighbours.
@@ -995,7 +1002,6 @@ fn known_cases(random: &mut Random, cases: &mut Cases) {
     cases.add("long-pattern", "2", vec![b'x'; 8_192], record);
     cases.add("long-pattern", "2", "(".repeat(8_192), record);
     cases.add("long-pattern", "2", &example.repeat(160)[..8_192], record);
-    let padded = |text: &str, size: usize| text.replacen('@', &"9".repeat(size + 1 - text.len()), 1);
     for (due, pattern) in [
         ("3", "(pattern margin 1 1 1 @)\n"),
         ("3", "(pattern margin 1 0 1 4)\n(place both (< 0 -@))\n"),
@@ -1102,6 +1108,508 @@ fn known_cases(random: &mut Random, cases: &mut Cases) {
     }
 }
 
+// --------------------------------------------------------------------------------------------- bands
+
+/// Request R-1's test. Its ends lie near a value of the record, so that values inside it, at its ends, below it
+/// and above it are all frequent.
+fn band(random: &mut Random, channels: usize, record: &Record) -> String {
+    let channel = random.below(channels);
+    let near = if record.is_empty() { 0 } else { record[random.below(record.len())].1[channel] };
+    let [under, over] = [0; 2].map(|_| random.below(6) as i64);
+    let (low, high) = match random.below(12) {
+        0 => (near, near),
+        1 => (near + over, near + over),
+        2 => (near, near + over),
+        3 => (near - under, near),
+        4 => (near + 1, near + 1 + over), // the value is below it
+        5 => (near - 1 - under, near - 1), // and above it
+        6 => (-1_000_000, near + over),
+        7 => (near - under, 1_000_000),
+        8 => (-1_000_000, 1_000_000),
+        _ => (near - under, near + over),
+    };
+    format!("(in {channel} {} {})", low.clamp(-1_000_000, 1_000_000), high.clamp(-1_000_000, 1_000_000))
+}
+
+/// Gives bands to most places: in the place of tests, beside them, or alone.
+fn put_bands(random: &mut Random, pattern: &mut Pattern, record: &Record) {
+    let channels = pattern.channels;
+    for (_, tests) in &mut pattern.places {
+        match random.below(10) {
+            0 | 1 => {}
+            2 | 3 | 4 => {
+                for test in tests {
+                    if random.percent(60) {
+                        *test = band(random, channels, record);
+                    }
+                }
+            }
+            5 | 6 => {
+                tests.truncate(3);
+                let at = random.from_to(0, tests.len());
+                tests.insert(at, band(random, channels, record));
+            }
+            _ => *tests = (0..random.from_to(1, 4)).map(|_| band(random, channels, record)).collect(),
+        }
+    }
+}
+
+/// A maker's pattern with bands, one of them in a place where runs begin. The listing is cheaper than for
+/// patterns without any: the statistics try more wrong readings here.
+fn with_bands(random: &mut Random, maker: Maker) -> (Pattern, Record) {
+    loop {
+        let (mut pattern, record) = maker(random);
+        put_bands(random, &mut pattern, &record);
+        let begins = |edge: &Edge| {
+            let (kind, tests) = &pattern.places[edge.from];
+            ["start", "both"].contains(kind) && tests.iter().any(|test| test.starts_with("(in "))
+        };
+        if pattern.edges.iter().any(begins) && pattern.cost(ticks(&record)) <= COST / 3.0 {
+            return (pattern, record);
+        }
+    }
+}
+
+/// A band in the words of document 01 alone; any other test as it is.
+fn two_tests(test: &str) -> Vec<String> {
+    let words: Vec<&str> = test.trim_matches(['(', ')']).split(' ').collect();
+    match words[..] {
+        ["in", channel, low, high] => vec![format!("(>= {channel} {low})"), format!("(<= {channel} {high})")],
+        _ => vec![test.to_string()],
+    }
+}
+
+/// The pattern without bands that says the same in margin, if no place has more than four tests then.
+fn as_two_tests(pattern: &Pattern) -> Option<Pattern> {
+    let mut other = pattern.clone();
+    for (_, tests) in &mut other.places {
+        *tests = tests.iter().flat_map(|test| two_tests(test)).collect();
+    }
+    other.places.iter().all(|place| place.1.len() <= 4).then_some(other)
+}
+
+/// A good pattern under both weightings.
+fn add_both(cases: &mut Cases, kind: &str, mut pattern: Pattern, record: &Record) {
+    for weighting in ["margin", "sum"] {
+        pattern.weighting = weighting;
+        cases.add(kind, "ok", pattern.text(), text(&record_lines(record)));
+    }
+}
+
+/// Good bands in small patterns, long ones and wide ones.
+fn random_bands(random: &mut Random, cases: &mut Cases) {
+    for _ in 0..120 {
+        let (pattern, record) = with_bands(random, |random| small(random, false));
+        add_both(cases, "band", pattern.clone(), &record);
+        if let Some(other) = as_two_tests(&pattern) {
+            add_both(cases, "band-as-two-tests", other, &record);
+        }
+        if !record.is_empty() && random.percent(25) {
+            let cut = cut_anew(random, &record);
+            add_both(cases, "band-cut-anew", pattern, &cut);
+        }
+    }
+    let makers: [(&str, Maker); 2] = [("band-chain", chain), ("band-wide", wide)];
+    for (kind, maker) in makers {
+        for _ in 0..12 {
+            let (pattern, record) = with_bands(random, maker);
+            add_both(cases, kind, pattern, &record);
+        }
+    }
+}
+
+/// Good bands beside what is refused after the pattern.
+fn bands_in_refused_cases(random: &mut Random, cases: &mut Cases) {
+    for _ in 0..12 {
+        let (mut pattern, mut record) = small(random, true);
+        record.push((1, vec![0; pattern.channels]));
+        put_bands(random, &mut pattern, &record);
+        pattern.places[0].1 = vec![band(random, pattern.channels, &record)];
+        cases.add("band-over-2048-cells", "11", pattern.text(), text(&record_lines(&record)));
+        let (lines, due) = faulty_record(random, &record, pattern.channels);
+        cases.add("band-and-faulty-record", due, pattern.text(), text(&lines));
+        let (pattern, record) = with_bands(random, tame);
+        let (lines, due) = faulty_record(random, &record, pattern.channels);
+        cases.add("band-and-faulty-record", due, pattern.text(), text(&lines));
+    }
+}
+
+/// One band and the values around it, a tick each. A run of one tick shows each value's own distance, longer
+/// ones what becomes of several.
+fn band_values(cases: &mut Cases) {
+    let far = 1_000_000;
+    for (low, high) in [
+        (5, 15), (5, 14), (-15, -5), (-4, 5), (7, 7), (0, 0), (-1, 0), (-far, far), (-far, -far), (far, far), (-far, 3),
+        (-3, far), (far - 1, far), (-far, 1 - far),
+    ] {
+        let middle = (low + high) / 2;
+        let values = [low - 1, low, low + 1, middle, middle + 1, high - 1, high, high + 1, -far, far, 0];
+        let values = values.iter().filter(|value| (-far..=far).contains(*value));
+        let record = values.map(|value| format!("(piece 1 {value})\n")).collect::<String>();
+        for weighting in ["margin", "sum"] {
+            for window in ["1 1", "1 3"] {
+                let header = format!("(pattern {weighting} 1 0 {window})\n");
+                let places = format!("(place start (in 0 {low} {high}))\n(place end)\n");
+                cases.add("band-values", "ok", header + &places + "(edge 0 0)\n(edge 0 1)\n", &record);
+            }
+        }
+    }
+}
+
+/// The worked examples: document 01's, the gearbox, and the sum. `@` is the weighting.
+const EXAMPLES: [(&str, &str); 3] = [
+    (
+        "(pattern @ 1 1 1 4)\n(place start (< 0 15))\n(place plain (> 0 5))\n(place end)\n\
+         (edge 0 1 (< 0 3) (reset 0))\n(edge 1 2 (<= 0 2))\n",
+        "(piece 2 10)\n(piece 2 40)\n",
+    ),
+    (
+        "(pattern @ 3 4 3 5)\n(place both (>= 0 20) (<= 1 40))\n(place plain (>= 0 25) (>= 1 180) (>= 2 900))\n\
+         (edge 0 1 (> 0 1) (reset 1 2 3))\n(edge 1 1 (<= 1 1) (reset 2))\n(edge 1 0 (<= 2 1) (> 3 1))\n",
+        "(piece 4 32 15 1200)\n(piece 1 30 210 1450)\n(piece 2 18 230 1380)\n(piece 1 29 205 1320)\n\
+         (piece 3 33 20 1210)\n(piece 3 31 195 1240)\n",
+    ),
+    (
+        "(pattern @ 2 1 3 8)\n(place start (<= 0 60))\n(place plain (<= 0 60) (<= 1 25))\n(place end)\n\
+         (edge 0 1 (>= 0 2) (reset 0))\n(edge 1 2 (>= 0 1) (<= 0 5))\n",
+        "(piece 3 52 10)\n(piece 2 55 18)\n(piece 4 58 21)\n(piece 1 61 30)\n(piece 3 57 20)\n(piece 3 50 12)\n",
+    ),
+];
+
+/// Each test of the worked examples as a band. Its bound is one end; the other is as far off as it may be, at
+/// the bound itself, near it, or far enough to hold more of the record's values.
+fn example_bands(random: &mut Random, cases: &mut Cases) {
+    for (example, record) in EXAMPLES {
+        let (places, _) = example.split_once("(edge").unwrap_or_default();
+        for (at, _) in places.match_indices(" (") {
+            let (before, test) = example.split_at(at + 1);
+            let (test, behind) = test.split_once(')').unwrap_or_default();
+            let words: Vec<&str> = test.split(' ').collect();
+            let bound: i64 = words[2].parse().unwrap_or_default();
+            for width in [2_000_000, 0, random.from_to(1, 9) as i64, random.from_to(10, 300) as i64] {
+                let (low, high) = match words[0] {
+                    ">" | ">=" => (bound, (bound + width).min(1_000_000)),
+                    _ => ((bound - width).max(-1_000_000), bound),
+                };
+                let pattern = format!("{before}(in {} {low} {high}){behind}", words[1]);
+                for weighting in ["margin", "sum"] {
+                    cases.add("band-example", "ok", pattern.replacen('@', weighting, 1), record);
+                }
+            }
+        }
+    }
+}
+
+const THIRTY: &str = "100000000000000000000000000001";
+
+/// What stands where a band should, and the refusal due. `$c` is a channel, `$n` one that the pattern lacks;
+/// `$l` and `$h` are a low and a high above it; `$x` is a number beyond 32 bits.
+const FAULTY_BANDS: [(&str, &str); 89] = [
+    // The low above the high, both in range.
+    ("3", "(in $c $h $l)"), ("3", "(in $c 0 -1)"), ("3", "(in $c 1 0)"), ("3", "(in $c 1000000 -1000000)"),
+    ("3", "(in $c 1000000 999999)"), ("3", "(in $c -999999 -1000000)"), ("3", "(in $n $h $l)"), ("3", "(in $x $h $l)"),
+    ("3", "(in $n 0 -1)"), ("3", "(in 8 1000000 -1000000)"), ("3", "(in 4294967296 $h $l)"),
+    // An end out of range, the low below the high, above it or the same.
+    ("3", "(in $c -1000001 $h)"), ("3", "(in $c $l 1000001)"), ("3", "(in $c -1000001 1000001)"),
+    ("3", "(in $c 1000001 $h)"), ("3", "(in $c $l -1000001)"), ("3", "(in $c 1000001 1000001)"),
+    ("3", "(in $c -1000001 -1000001)"), ("3", "(in $n $l 1000001)"), ("3", "(in $n -1000001 $h)"),
+    ("3", "(in $c -2147483649 $h)"), ("3", "(in $c $l 2147483648)"), ("3", "(in $c 4294967296 4294967297)"),
+    ("3", "(in $c $l $x)"), ("3", "(in $c -$x $h)"), ("3", "(in $c $x $h)"), ("3", "(in $c $x $x)"),
+    ("3", "(in $n -$x $x)"),
+    // A channel that is not there.
+    ("5", "(in $n $l $h)"), ("5", "(in $n $l $l)"), ("5", "(in $n -1000000 1000000)"), ("5", "(in 8 $l $h)"),
+    ("5", "(in 256 $l $h)"), ("5", "(in 4294967296 $l $h)"), ("5", "(in 18446744073709551616 $l $h)"),
+    ("5", "(in $x $l $h)"),
+    // Another word, or a sign.
+    ("2", "(In $c $l $h)"), ("2", "(IN $c $l $h)"), ("2", "(inn $c $l $h)"), ("2", "(i $c $l $h)"),
+    ("2", "(out $c $l $h)"), ("2", "(< $c $l $h)"), ("2", "(>= $c $l $h)"), ("2", "(in <= $c $l $h)"),
+    ("2", "($c $l $h)"),
+    // Spaces and tabs.
+    ("2", "(in$c $l $h)"), ("2", "( in $c $l $h)"), ("2", "(in  $c $l $h)"), ("2", "(in $c  $l $h)"),
+    ("2", "(in $c $l  $h)"), ("2", "(in $c $l $h )"), ("2", "(in\t$c $l $h)"), ("2", "(in $c\t$l $h)"),
+    ("2", "(in $c $l\t$h)"), ("2", "\t(in $c $l $h)"),
+    // Too few numbers, and too many.
+    ("2", "(in)"), ("2", "(in )"), ("2", "(in $c)"), ("2", "(in $c $l)"), ("2", "(in $c $l $h $h)"),
+    ("2", "(in $c $c $l $h)"),
+    // Numbers that are none.
+    ("2", "(in $c -0 $h)"), ("2", "(in $c $l -0)"), ("2", "(in -0 $l $h)"), ("2", "(in -1 $l $h)"),
+    ("2", "(in $c 00 $h)"), ("2", "(in $c $l 01)"), ("2", "(in $c -01 $h)"), ("2", "(in 0$c $l $h)"),
+    ("2", "(in $c +7 $h)"), ("2", "(in $c $l +7)"), ("2", "(in $c - $h)"), ("2", "(in $c $l --7)"),
+    ("2", "(in $c $l 7.0)"), ("2", "(in $c $l..$h)"),
+    // Brackets.
+    ("2", "in $c $l $h"), ("2", "in $c $l $h)"), ("2", "(in $c $l $h"), ("2", "(in $c $l $h))"),
+    ("2", "((in $c $l $h))"), ("2", "(in $c ($l $h))"), ("2", "(in ($c) $l $h)"), ("2", "(in $c $l $h)(in $c $l $h)"),
+    // Beside causes for 3 and 5.
+    ("2", "(in $c 7 -0)"), ("2", "(in $c $h $l"), ("2", "(In $n $h $l)"), ("2", "(in $n $h)"),
+    ("2", "(in $n 1000001 00)"), ("2", "(in -1 $h $l)"),
+];
+
+/// A bracket of the table above for a pattern with so many channels.
+fn filled(random: &mut Random, bracket: &str, channels: usize) -> String {
+    let low = random.below(2_001) as i64 - 1_000;
+    let high = low + random.from_to(1, 1_000) as i64;
+    bracket
+        .replace("$c", &random.below(channels).to_string())
+        .replace("$n", &(channels + random.below(2)).to_string())
+        .replace("$l", &low.to_string())
+        .replace("$h", &high.to_string())
+        .replace("$x", random.pick(&[FORTY, THIRTY, TWENTY, TEN]))
+}
+
+/// One of the faulty bands; if asked for, one whose form is whole.
+fn random_bracket(random: &mut Random, whole: bool) -> (&'static str, &'static str) {
+    loop {
+        let (due, bracket) = FAULTY_BANDS[random.below(FAULTY_BANDS.len())];
+        if due != "2" || !whole {
+            return (due, bracket);
+        }
+    }
+}
+
+/// As many good tests, bands among them.
+fn good_tests(random: &mut Random, count: usize, channels: usize, record: &Record) -> Vec<String> {
+    let pool = pool(random);
+    let mut draw = || if random.percent(40) { band(random, channels, record) } else { test(random, channels, &pool) };
+    (0..count).map(|_| draw()).collect()
+}
+
+/// The refusal for a line with these causes.
+fn first_due(causes: [&'static str; 2]) -> &'static str {
+    ["2", "4", "3", "5"].into_iter().find(|due| causes.contains(due)).unwrap_or("ok")
+}
+
+/// What a faulty band stands in: a pattern with bands, its record, a place, and that place's tests.
+struct Around {
+    pattern: Pattern,
+    record: String,
+    place: usize,
+    tests: Vec<String>,
+}
+
+impl Around {
+    /// From the least to the most good tests stand in the place.
+    fn new(random: &mut Random, least: usize, most: usize) -> Around {
+        let (pattern, record) = with_bands(random, tame);
+        let place = random.below(pattern.places.len());
+        let count = random.from_to(least, most);
+        let tests = good_tests(random, count, pattern.channels, &record);
+        // A faulty record has no say beside a faulty pattern.
+        let record = if random.percent(10) { "(piece)\n".to_string() } else { text(&record_lines(&record)) };
+        Around { pattern, record, place, tests }
+    }
+
+    /// One test more, at a random position.
+    fn put(&mut self, random: &mut Random, bracket: &str) {
+        let at = random.from_to(0, self.tests.len());
+        self.tests.insert(at, filled(random, bracket, self.pattern.channels));
+    }
+
+    /// The pattern's lines; the place has line 1 + place.
+    fn lines(&self) -> Vec<String> {
+        let mut pattern = self.pattern.clone();
+        pattern.places[self.place].1 = self.tests.clone();
+        pattern.lines()
+    }
+}
+
+/// Each faulty band alone on its line, among other tests, and before lines with faults, which do not count.
+fn faulty_bands(random: &mut Random, cases: &mut Cases) {
+    for (due, bracket) in FAULTY_BANDS {
+        for (kind, least, most) in [("band-faulty", 0, 0), ("band-faulty-beside-tests", 1, 3)] {
+            let mut around = Around::new(random, least, most);
+            around.put(random, bracket);
+            cases.add(kind, due, text(&around.lines()), &around.record);
+        }
+        let mut around = Around::new(random, 0, 3);
+        around.put(random, bracket);
+        let mut lines = around.lines();
+        let (_, other) = random_bracket(random, false);
+        let later = match random.below(4) {
+            0 => faulty_line(random, &around.pattern, true).0,
+            1 => faulty_line(random, &around.pattern, false).0,
+            2 => format!("(place end {})", filled(random, other, around.pattern.channels)),
+            _ => random.pick(&["", "(place)", "(in 0 5 7)", "(edge 0 0 (in 0 5 7))", "garbage"]).to_string(),
+        };
+        lines.insert(random.from_to(2 + around.place, lines.len()), later);
+        cases.add("band-faulty-before-faults", due, text(&lines), &around.record);
+    }
+}
+
+/// Two causes on one line: of two bands, or of a band and another test. Few lines are broken in form, for that
+/// leaves the other cause no say.
+fn bands_beside_faults(random: &mut Random, cases: &mut Cases) {
+    for _ in 0..36 {
+        let whole = random.percent(80);
+        let (due, bracket) = random_bracket(random, whole);
+        let (other_due, other) = match random.below(8) {
+            0 => ("2", "(> $c -0)"),
+            1 => ("3", "(< $c 1000001)"),
+            2 | 3 => ("5", "(>= $n $l)"),
+            4 | 5 => ("3", "(in $c $h $l)"),
+            _ => random_bracket(random, true),
+        };
+        let mut around = Around::new(random, 0, 2);
+        around.put(random, bracket);
+        around.put(random, other);
+        cases.add("band-faulty-beside-faults", first_due([due, other_due]), text(&around.lines()), &around.record);
+    }
+}
+
+/// A faulty band that does not count, for an earlier line decides.
+fn bands_behind_faults(random: &mut Random, cases: &mut Cases) {
+    for _ in 0..20 {
+        let (_, bracket) = random_bracket(random, false);
+        let mut around = Around::new(random, 0, 3);
+        around.put(random, bracket);
+        let (earlier, due) = faulty_line(random, &around.pattern, true);
+        let mut lines = around.lines();
+        lines.insert(random.from_to(1, 1 + around.place), earlier);
+        cases.add("band-faulty-behind-a-fault", due, text(&lines), &around.record);
+    }
+}
+
+/// A test too many, and a place too many: a band counts once, and the count comes before its numbers.
+fn bands_too_many(random: &mut Random, cases: &mut Cases) {
+    for (due, bracket) in [
+        ("4", "(in $c $l $h)"), ("4", "(in $c $h $l)"), ("4", "(in $n $h $l)"), ("4", "(in $n $l $h)"),
+        ("4", "(in $c $l 1000001)"), ("4", "(in $c $x $x)"), ("2", "(in $c $h -0)"), ("2", "(In $n $h $l)"),
+        ("2", "(in $c $l)"),
+    ] {
+        for turn in 0..5 {
+            let mut around = Around::new(random, 4, 4);
+            match turn {
+                0 | 1 => around.tests.push(filled(random, bracket, around.pattern.channels)),
+                2 => around.tests = [0; 5].map(|_| filled(random, bracket, around.pattern.channels)).to_vec(),
+                _ => around.put(random, bracket),
+            }
+            cases.add("band-too-many", due, text(&around.lines()), &around.record);
+        }
+    }
+    let record = "(piece 2 10)\n(piece 3 -4)\n";
+    let many = |places: usize, last: &str| {
+        let bands = " (in 0 -1000000 1000000) (in 0 -4 10) (in 0 7 7) (in 0 -9 -3)";
+        format!("(pattern sum 1 0 1 2)\n{}{last}", format!("(place both{bands})\n").repeat(places))
+    };
+    for (due, pattern) in [
+        ("ok", many(16, "")),
+        ("ok", many(16, &"(edge 15 15)\n".repeat(32))),
+        ("ok", many(15, "(place both (in 0 5 5))\n(edge 15 15)\n")),
+        ("3", many(15, "(place both (in 0 5 4))\n(edge 15 16)\n")),
+        ("4", many(16, "(place both (in 0 4 5))\n")),
+        ("4", many(16, "(place both (in 1 5 4))\n")),
+        ("2", many(16, "(place both (in 0 5))\n")),
+        ("4", many(17, "")),
+    ] {
+        cases.add("band-many", due, &pattern, record);
+        cases.add("band-many", due, pattern.replacen("sum", "margin", 1), record);
+    }
+}
+
+/// An edge has no bands.
+fn bands_in_edges(random: &mut Random, cases: &mut Cases) {
+    for clock_and_ends in ["0 1 3", "0 0 1000", "0 2 2", "0 3 1", "9 1 3", "0 -1 3", "0 1 1001"] {
+        for _ in 0..4 {
+            let (pattern, record) = with_bands(random, tame);
+            let mut lines = pattern.lines();
+            // Before a guard or the reset, or behind the last of them.
+            let at = random.from_to(1 + pattern.places.len(), lines.len() - 1);
+            let mut gaps: Vec<usize> = lines[at].match_indices(" (").map(|gap| gap.0).collect();
+            gaps.push(lines[at].len() - 1);
+            lines[at].insert_str(gaps[random.below(gaps.len())], &format!(" (in {clock_and_ends})"));
+            cases.add("band-in-edge", "2", text(&lines), text(&record_lines(&record)));
+        }
+    }
+}
+
+/// Bands where a kind, a number or a whole line is due.
+fn bands_misplaced(random: &mut Random, cases: &mut Cases) {
+    for line in ["(place @)", "(place @ plain)", "(place @ @)", "(place in)", "(place end (@))", "(@ place end)", "@"] {
+        for _ in 0..2 {
+            let around = Around::new(random, 0, 0);
+            let band = filled(random, "(in $c $l $h)", around.pattern.channels);
+            let mut lines = around.lines();
+            lines[1 + around.place] = line.replace('@', &band);
+            cases.add("band-misplaced", "2", text(&lines), &around.record);
+        }
+    }
+    let (example, record) = EXAMPLES[0];
+    let pattern = example.replacen('@', "margin", 1).replacen("(< 0 15)", "(in 0 5 15)", 1);
+    for (from, to) in [
+        ("(< 0 3)", "(in 0 1 2)"), ("(reset 0)", "(in 0 1 2)"), ("(reset 0)", "(reset (in 0 0 0))"),
+        ("(reset 0)", "(reset in 0 0)"), ("(edge 0 1", "(edge (in 0 0 1)"), ("(edge 0 1", "(edge in 0 1"),
+        ("(edge 1 2 (<= 0 2))", "(in 0 1 2)"), ("start (in 0 5 15)", "in 0 5 15"),
+        ("(place end)", "(place end)\n(in 0 5 15)"), ("(place end)", "(place end) (in 0 5 15)"),
+        ("1 4)", "1 4 (in 0 5 15))"), ("1 1 1 4)", "(in 0 5 15))"), ("margin", "(in 0 5 15)"),
+    ] {
+        let changed = pattern.replacen(from, to, 1);
+        assert_ne!(pattern, changed);
+        cases.add("band-misplaced", "2", changed, record);
+    }
+    for record in ["(piece 2 (in 0 5 15))\n", "(piece in 2 10)\n", "(piece 2 10)\n(in 0 5 15)\n"] {
+        cases.add("band-misplaced", "2", &pattern, record);
+    }
+}
+
+/// Bands as long as a text may be, and longer.
+fn long_bands(cases: &mut Cases) {
+    let record = "(piece 2 10)\n";
+    for (due, tests) in [
+        ("3", " (in 0 -@ 7)"), ("3", " (in 0 7 @)"), ("3", " (in 0 @ 7)"), ("3", " (in @ 7 5)"), ("5", " (in @ 5 7)"),
+        ("2", " (in 0 5 7 @)"), ("2", " (in 0 5 7@"),
+    ] {
+        let pattern = format!("(pattern margin 1 0 1 4)\n(place both{tests})\n(edge 0 0)\n");
+        cases.add("band-long-pattern", due, padded(&pattern, 8_192), record);
+        cases.add("band-long-pattern", "1", padded(&pattern, 8_193), record);
+    }
+    let tests = format!("(pattern margin 1 0 1 4)\n(place both{})\n", " (in 0 7 5)".repeat(700));
+    cases.add("band-long-pattern", "4", tests, record);
+}
+
+/// One change of a byte of a band.
+fn change_band(random: &mut Random, text: &mut Vec<u8>) {
+    let alphabet = b"0123456789012345678901234567890123456789---  ()in<=\n\t";
+    let bands: Vec<usize> = (0..text.len()).filter(|at| text[*at..].starts_with(b"(in ")).collect();
+    let from = bands[random.below(bands.len())];
+    let size = text[from..].iter().position(|byte| *byte == b')').unwrap_or_default();
+    let at = from + random.from_to(0, size);
+    match random.below(4) {
+        0 => drop(text.remove(at)),
+        1 => text.insert(at, alphabet[random.below(alphabet.len())]),
+        _ => text[at] = alphabet[random.below(alphabet.len())],
+    }
+}
+
+fn changed_bands(random: &mut Random, cases: &mut Cases) {
+    for turn in 0..120 {
+        let (pattern, record) = with_bands(random, tame);
+        let mut changed = pattern.text().into_bytes();
+        if turn % 2 == 0 {
+            change_band(random, &mut changed);
+        } else {
+            for _ in 0..few(random, [0, 60, 25, 15, 0]) {
+                change(random, &[ALPHABET, b"iinn"].concat(), &mut changed);
+            }
+        }
+        cases.add("band-changed", "-", changed, text(&record_lines(&record)));
+    }
+}
+
+/// The cases of request R-1. They come last, so the cases before them are those of document 01 alone.
+fn band_cases(random: &mut Random, cases: &mut Cases) {
+    random_bands(random, cases);
+    bands_in_refused_cases(random, cases);
+    band_values(cases);
+    example_bands(random, cases);
+    faulty_bands(random, cases);
+    bands_beside_faults(random, cases);
+    bands_behind_faults(random, cases);
+    bands_too_many(random, cases);
+    bands_in_edges(random, cases);
+    bands_misplaced(random, cases);
+    long_bands(cases);
+    changed_bands(random, cases);
+}
+
 fn stop(message: &str) -> ! {
     eprintln!("{message}");
     exit(2)
@@ -1149,6 +1657,7 @@ fn main() {
     known_cases(&mut random, &mut cases);
     random_cases(&mut random, &mut cases);
     faulty_cases(&mut random, &mut cases);
+    band_cases(&mut random, &mut cases);
     for (kind, count) in &cases.kinds {
         println!("{count:6}  {kind}");
     }

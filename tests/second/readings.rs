@@ -1,10 +1,10 @@
-//! Readings of document 01 (the scope paper): the right one, which answers as `scorer.rs` does, and 29 wrong
+//! Readings of document 01 (the scope paper): the right one, which answers as `scorer.rs` does, and 47 wrong
 //! ones, for the statistics.
 //!
-//! Written from document 01 and the decisions recorded beside it, and from nothing else. It shares no code
-//! with the product or with `scorer.rs`. It has no tables, no ceilings of clocks and no states that stand
-//! for many runs: each run is a begin, its edges and its stays, listed and priced alone. Quoted sentences
-//! are document 01's.
+//! Written from document 01 and the decisions recorded beside it, and for the bands from request R-1, and from
+//! nothing else. It shares no code with the product or with `scorer.rs`. It has no tables, no ceilings of
+//! clocks and no states that stand for many runs: each run is a begin, its edges and its stays, listed and
+//! priced alone. Quoted sentences are document 01's.
 //!
 //!     readings DIR                         answer for DIR/pattern.txt and DIR/record.txt
 //!     readings --many CASES --answers OUT  the answer to each case, into OUT/NUMBER
@@ -104,23 +104,45 @@ enum Sign {
     GreaterOrEqual,
 }
 
-/// A test (of a channel) or a guard (of a clock): "a sign `<`, `<=`, `>`, `>=`", an index, and a bound.
-struct Condition {
+/// What a test holds a value against: "a sign `<`, `<=`, `>`, `>=`" and a bound, or (R-1) a band's low and
+/// high.
+#[derive(Clone, Copy)]
+enum Against {
+    Bound(Sign, i64),
+    Band(i64, i64),
+}
+
+struct Test {
+    channel: usize,
+    against: Against,
+}
+
+struct Guard {
     sign: Sign,
-    index: usize,
+    clock: usize,
     bound: i64,
 }
 
 struct Place {
     start: bool,
     end: bool,
-    tests: Vec<Condition>,
+    tests: Vec<Test>,
+}
+
+impl Place {
+    /// Each band of the place: the tests before it, its channel, its low and its high.
+    fn bands(&self) -> impl Iterator<Item = (usize, usize, i64, i64)> {
+        self.tests.iter().enumerate().filter_map(|(at, test)| match test.against {
+            Against::Band(low, high) => Some((at, test.channel, low, high)),
+            Against::Bound(..) => None,
+        })
+    }
 }
 
 struct Edge {
     from: usize,
     to: usize,
-    guards: Vec<Condition>,
+    guards: Vec<Guard>,
     resets: Vec<usize>,
 }
 
@@ -142,17 +164,27 @@ struct Pattern {
 struct Faults {
     too_many: bool,
     out_of_range: bool,
+    low_above_high: bool, // of a band; for R-1 it is a further way to be out of range
     no_such_index: bool,
+    // For the statistics: the line in hand, counted from 0, and which of its causes a band gives.
+    line: usize,
+    end_out_of_range: bool,
+    no_such_channel: bool,
 }
 
 impl Faults {
-    fn judge(&self) -> Result<(), u8> {
-        match self {
-            Faults { too_many: true, .. } => Err(4),
-            Faults { out_of_range: true, .. } => Err(3),
-            Faults { no_such_index: true, .. } => Err(5),
-            _ => Ok(()),
-        }
+    fn judge(&self, slip: Slip) -> Result<(), u8> {
+        let (many, range) = (self.too_many, self.out_of_range);
+        let (above, index) = (self.low_above_high, self.no_such_index);
+        let causes: &[(bool, u8)] = match slip {
+            Slip::LowAboveHighRead => &[(many, 4), (range, 3), (index, 5)],
+            Slip::LowAboveHighIs2 => &[(above, 2), (many, 4), (range, 3), (index, 5)],
+            Slip::LowAboveHighIs5 => &[(many, 4), (range, 3), (index || above, 5)],
+            Slip::LowAboveHighBefore4 => &[(above, 3), (many, 4), (range, 3), (index, 5)],
+            Slip::LowAboveHighAfter5 => &[(many, 4), (range, 3), (index, 5), (above, 3)],
+            _ => &[(many, 4), (range || above, 3), (index, 5)],
+        };
+        causes.iter().find(|(occurs, _)| *occurs).map_or(Ok(()), |(_, refusal)| Err(*refusal))
     }
 
     fn range(&mut self, number: i64, least: i64, most: i64) {
@@ -162,9 +194,20 @@ impl Faults {
     fn index(&mut self, number: i64, count: usize) {
         self.no_such_index |= number >= count as i64;
     }
+
+    /// A band's ends have a bound's range each, and may be equal.
+    fn band(&mut self, low: i64, high: i64, slip: Slip) {
+        let in_range = [low, high].iter().all(|end| BOUNDS.contains(end)) || slip == Slip::EndsOutOfRangeRead;
+        self.end_out_of_range |= !in_range;
+        self.out_of_range |= !in_range;
+        self.low_above_high |= low > high || low == high && slip == Slip::EqualEndsRefused;
+    }
 }
 
-/// The form of a test or a guard alone: sign, index, bound.
+/// Where a test's bound lies, and each end of a band.
+const BOUNDS: std::ops::RangeInclusive<i64> = -1_000_000..=1_000_000;
+
+/// The form of a guard, or of a test with a sign, alone: sign, index, bound.
 fn condition(form: &Form, minus_may_stand: bool) -> Option<(Sign, i64, i64)> {
     let Form::Bracket(parts) = form else { return None };
     let [Form::Word(sign), index, bound] = &parts[..] else { return None };
@@ -178,9 +221,18 @@ fn condition(form: &Form, minus_may_stand: bool) -> Option<(Sign, i64, i64)> {
     Some((sign, number(index, false)?, number(bound, minus_may_stand)?))
 }
 
-/// Tests or guards whose line has been judged good.
-fn conditions(parts: &[(Sign, i64, i64)]) -> Vec<Condition> {
-    parts.iter().map(|&(sign, index, bound)| Condition { sign, index: index as usize, bound }).collect()
+/// The form of R-1's band alone: the word `in`, a channel, and two numbers that are written like a bound.
+fn band(form: &Form, slip: Slip) -> Option<(i64, i64, i64)> {
+    let Form::Bracket(parts) = form else { return None };
+    let [Form::Word(b"in"), channel, low, high] = &parts[..] else { return None };
+    let minus_may_stand = slip != Slip::EndsWithoutMinus;
+    Some((number(channel, false)?, number(low, minus_may_stand)?, number(high, minus_may_stand)?))
+}
+
+/// The form of a test alone: its channel, and what the value is held against.
+fn test(form: &Form, slip: Slip) -> Option<(i64, Against)> {
+    let signed = condition(form, true).map(|(sign, channel, bound)| (channel, Against::Bound(sign, bound)));
+    signed.or_else(|| band(form, slip).map(|(channel, low, high)| (channel, Against::Band(low, high))))
 }
 
 /// "Line 1: `margin` or `sum`; channels 1 to 8; clocks 0 to 4; the window's low, 1 to 4,095; its high,
@@ -202,7 +254,7 @@ fn read_header(line: &[u8], faults: &mut Faults) -> Result<Pattern, u8> {
     faults.range(numbers[1], 0, 4);
     faults.range(numbers[2], 1, 4_095);
     faults.range(numbers[3], numbers[2], 4_095);
-    faults.judge()?;
+    faults.judge(Slip::Right)?;
     Ok(Pattern {
         sum,
         channels: numbers[0] as usize,
@@ -215,9 +267,9 @@ fn read_header(line: &[u8], faults: &mut Faults) -> Result<Pattern, u8> {
 }
 
 /// "1 to 16 places: `start`, `plain`, `end` or `both` (start and end), with 0 to 4 tests. A test is a
-/// sign [...], a channel, and a bound from -1,000,000 to 1,000,000."
-fn read_place(parts: &[Form], pattern: &Pattern, faults: &mut Faults) -> Result<Place, u8> {
-    let form = || -> Option<(bool, bool, Vec<(Sign, i64, i64)>)> {
+/// sign [...], a channel, and a bound from -1,000,000 to 1,000,000." R-1 adds the band, which is one test.
+fn read_place(parts: &[Form], pattern: &Pattern, slip: Slip, faults: &mut Faults) -> Result<Place, u8> {
+    let form = || -> Option<(bool, bool, Vec<(i64, Against)>)> {
         let [Form::Word(kind), tests @ ..] = parts else { return None };
         let (start, end) = match *kind {
             b"start" => (true, false),
@@ -226,22 +278,35 @@ fn read_place(parts: &[Form], pattern: &Pattern, faults: &mut Faults) -> Result<
             b"both" => (true, true),
             _ => return None,
         };
-        let tests = tests.iter().map(|test| condition(test, true)).collect::<Option<Vec<_>>>()?;
+        let tests = tests.iter().map(|form| test(form, slip)).collect::<Option<Vec<_>>>()?;
         Some((start, end, tests))
     };
     let (start, end, tests) = form().ok_or(2)?;
-    faults.too_many = pattern.places.len() == 16 || tests.len() > 4;
-    for (_, channel, bound) in &tests {
-        faults.range(*bound, -1_000_000, 1_000_000);
-        faults.index(*channel, pattern.channels);
+    let bands = tests.iter().filter(|(_, against)| matches!(against, Against::Band(..))).count();
+    let count = match slip {
+        Slip::BandIsTwoTests => tests.len() + bands,
+        Slip::BandIsNoTest => tests.len() - bands,
+        _ => tests.len(),
+    };
+    faults.too_many = pattern.places.len() == 16 || count > 4;
+    for &(channel, against) in &tests {
+        faults.index(channel, pattern.channels);
+        match against {
+            Against::Bound(_, bound) => faults.range(bound, *BOUNDS.start(), *BOUNDS.end()),
+            Against::Band(low, high) => {
+                faults.band(low, high, slip);
+                faults.no_such_channel |= channel >= pattern.channels as i64;
+            }
+        }
     }
-    faults.judge()?;
-    Ok(Place { start, end, tests: conditions(&tests) })
+    faults.judge(slip)?;
+    let tests = tests.iter().map(|&(channel, against)| Test { channel: channel as usize, against });
+    Ok(Place { start, end, tests: tests.collect() })
 }
 
 /// "0 to 32 edges: from, to, 0 to 4 guards (a sign, a clock, a bound 0 to 1,000), then resets, at least
-/// one clock, rising, or no bracket at all."
-fn read_edge(parts: &[Form], pattern: &Pattern, faults: &mut Faults) -> Result<Edge, u8> {
+/// one clock, rising, or no bracket at all." R-1 gives the band to places alone.
+fn read_edge(parts: &[Form], pattern: &Pattern, slip: Slip, faults: &mut Faults) -> Result<Edge, u8> {
     let form = || -> Option<(i64, i64, Vec<(Sign, i64, i64)>, Vec<i64>)> {
         let [from, to, rest @ ..] = parts else { return None };
         let (guards, resets) = match rest.split_last() {
@@ -250,7 +315,9 @@ fn read_edge(parts: &[Form], pattern: &Pattern, faults: &mut Faults) -> Result<E
             }
             _ => (rest, Vec::new()),
         };
-        let guards = guards.iter().map(|guard| condition(guard, false)).collect::<Option<Vec<_>>>()?;
+        let passed_over = |guard: &Form| slip == Slip::BandInEdge && band(guard, slip).is_some();
+        let guards = guards.iter().filter(|guard| !passed_over(guard));
+        let guards = guards.map(|guard| condition(guard, false)).collect::<Option<Vec<_>>>()?;
         Some((number(from, false)?, number(to, false)?, guards, resets))
     };
     let (from, to, guards, resets) = form().ok_or(2)?;
@@ -265,18 +332,19 @@ fn read_edge(parts: &[Form], pattern: &Pattern, faults: &mut Faults) -> Result<E
         faults.index(*clock, pattern.clocks);
     }
     faults.no_such_index |= resets.windows(2).any(|pair| pair[1] <= pair[0]);
-    faults.judge()?;
+    faults.judge(slip)?;
+    let guards = guards.iter().map(|&(sign, clock, bound)| Guard { sign, clock: clock as usize, bound });
     Ok(Edge {
         from: from as usize,
         to: to as usize,
-        guards: conditions(&guards),
+        guards: guards.collect(),
         resets: resets.iter().map(|clock| *clock as usize).collect(),
     })
 }
 
 /// "1: over 8,192 bytes. Then the first faulty line decides". "empty text, missing line feed, a line of
 /// the wrong kind, as a place after an edge, and no place at all included" are broken form.
-fn read_pattern(text: &[u8], faults: &mut Faults) -> Result<Pattern, u8> {
+fn read_pattern(text: &[u8], slip: Slip, faults: &mut Faults) -> Result<Pattern, u8> {
     if text.len() > 8_192 {
         return Err(1);
     }
@@ -284,14 +352,15 @@ fn read_pattern(text: &[u8], faults: &mut Faults) -> Result<Pattern, u8> {
     let [header, rest @ ..] = &lines[..] else { return Err(2) };
     let mut pattern = read_header(header.ok_or(2)?, faults)?;
     for line in rest {
+        faults.line += 1;
         let parts = line.and_then(read_form).ok_or(2)?;
         match &parts[..] {
             [Form::Word(b"place"), parts @ ..] if pattern.edges.is_empty() => {
-                let place = read_place(parts, &pattern, faults)?;
+                let place = read_place(parts, &pattern, slip, faults)?;
                 pattern.places.push(place);
             }
             [Form::Word(b"edge"), parts @ ..] if !pattern.places.is_empty() => {
-                let edge = read_edge(parts, &pattern, faults)?;
+                let edge = read_edge(parts, &pattern, slip, faults)?;
                 pattern.edges.push(edge);
             }
             _ => return Err(2),
@@ -312,7 +381,7 @@ fn cells_needed(pattern: &Pattern) -> u64 {
 
 fn largest_bound(pattern: &Pattern, clock: usize) -> u64 {
     let guards = pattern.edges.iter().flat_map(|edge| &edge.guards);
-    guards.filter(|guard| guard.index == clock).map(|guard| guard.bound as u64).max().unwrap_or(0)
+    guards.filter(|guard| guard.clock == clock).map(|guard| guard.bound as u64).max().unwrap_or(0)
 }
 
 // ---------------------------------------------------------------------------------------- the record
@@ -408,6 +477,26 @@ enum Slip {
     GreatestLength,      // the greatest length among equals
     LatestEnd,           // the latest end among equals
     GreatestSum,         // the greatest is best in sum too
+    // Of what a band is worth (R-1):
+    BandGreater,         // the greater of its two sides
+    BandHighForgotten,   // how far the value is over the low
+    BandLowForgotten,    // how far the value is under the high
+    BandSumAddsBoth,     // in sum both sides are added, as those of two tests are
+    BandNearerEnd,       // how far the nearer end is, outside too
+    BandByMiddle,        // half the width less the way to the middle, each in whole numbers
+    BandOfChannel0,      // the value is that of channel 0
+    // Of how a band is read (R-1):
+    BandIsTwoTests,      // it counts twice among a place's tests
+    BandIsNoTest,        // it does not count among them
+    BandInEdge,          // it may stand among an edge's guards
+    EqualEndsRefused,    // equal ends are refused with 3
+    EndsWithoutMinus,    // no minus may stand in an end
+    EndsOutOfRangeRead,  // an end may be any number
+    LowAboveHighRead,    // a low above the high makes an empty band
+    LowAboveHighIs2,     // it is a broken form
+    LowAboveHighIs5,     // it is refused with 5
+    LowAboveHighBefore4, // it is refused with 3, and before a test too many
+    LowAboveHighAfter5,  // it is refused with 3, but after an index that the pattern lacks
 }
 
 const SLIPS: [Slip; 29] = [
@@ -440,6 +529,32 @@ const SLIPS: [Slip; 29] = [
     Slip::GreatestLength,
     Slip::LatestEnd,
     Slip::GreatestSum,
+];
+
+/// Those that make no difference where no place has a band.
+const BAND_SLIPS: [Slip; 7] = [
+    Slip::BandGreater,
+    Slip::BandHighForgotten,
+    Slip::BandLowForgotten,
+    Slip::BandSumAddsBoth,
+    Slip::BandNearerEnd,
+    Slip::BandByMiddle,
+    Slip::BandOfChannel0,
+];
+
+/// Those that make a difference only in whether a text is refused, and with which number.
+const TEXT_SLIPS: [Slip; 11] = [
+    Slip::BandIsTwoTests,
+    Slip::BandIsNoTest,
+    Slip::BandInEdge,
+    Slip::EqualEndsRefused,
+    Slip::EndsWithoutMinus,
+    Slip::EndsOutOfRangeRead,
+    Slip::LowAboveHighRead,
+    Slip::LowAboveHighIs2,
+    Slip::LowAboveHighIs5,
+    Slip::LowAboveHighBefore4,
+    Slip::LowAboveHighAfter5,
 ];
 
 /// One stay of a run: in a place, over the ticks from one time to another.
@@ -551,7 +666,7 @@ impl Scorer<'_> {
         let loose = self.slip(Slip::StrictGuardsLoose);
         let tried = if self.slip(Slip::FirstGuardOnly) { 1 } else { 4 };
         edge.guards.iter().take(tried).all(|guard| {
-            let (clock, bound) = (clocks[guard.index], guard.bound as u64);
+            let (clock, bound) = (clocks[guard.clock], guard.bound as u64);
             match guard.sign {
                 Sign::Less => clock < bound || loose && clock == bound,
                 Sign::LessOrEqual => clock <= bound,
@@ -657,17 +772,34 @@ impl Scorer<'_> {
 
     /// "A test's distance is value - bound for `>` and `>=`, bound - value for `<` and `<=`; it may be
     /// negative, and strict signs measure like the others."
-    fn distance(&self, test: &Condition, values: &[i64]) -> i64 {
-        let value = values[test.index];
-        let distance = match test.sign {
-            Sign::Greater | Sign::GreaterOrEqual => value - test.bound,
-            Sign::Less | Sign::LessOrEqual => test.bound - value,
+    fn distance(&self, test: &Test, values: &[i64]) -> i64 {
+        let value = values[test.channel];
+        let distance = match test.against {
+            Against::Bound(Sign::Greater | Sign::GreaterOrEqual, bound) => value - bound,
+            Against::Bound(Sign::Less | Sign::LessOrEqual, bound) => bound - value,
+            Against::Band(low, high) if self.slip(Slip::BandOfChannel0) => self.inside(values[0], low, high),
+            Against::Band(low, high) => self.inside(value, low, high),
         };
-        let strict = matches!(test.sign, Sign::Less | Sign::Greater);
+        let strict = matches!(test.against, Against::Bound(Sign::Less | Sign::Greater, _));
         match self.slip {
             Slip::StrictMeasuresLess if strict => distance - 1,
             Slip::DistanceFromZero => distance.max(0),
             _ => distance,
+        }
+    }
+
+    /// A band's distance (R-1): the value is so far over the low and so far under the high, and the smaller
+    /// counts, under both weightings.
+    fn inside(&self, value: i64, low: i64, high: i64) -> i64 {
+        let (over, under) = (value - low, high - value);
+        match self.slip {
+            Slip::BandGreater => over.max(under),
+            Slip::BandHighForgotten => over,
+            Slip::BandLowForgotten => under,
+            Slip::BandSumAddsBoth if self.pattern.sum => over + under,
+            Slip::BandNearerEnd => over.abs().min(under.abs()),
+            Slip::BandByMiddle => (high - low) / 2 - (value - (low + high) / 2).abs(),
+            _ => over.min(under),
         }
     }
 
@@ -705,7 +837,7 @@ impl Scorer<'_> {
 
 fn score<'a>(pattern: &'a Pattern, record: &[Piece], slip: Slip) -> Scorer<'a> {
     let tested = |channel: &usize| {
-        pattern.places.iter().any(|place| place.tests.iter().any(|test| test.index == *channel))
+        pattern.places.iter().any(|place| place.tests.iter().any(|test| test.channel == *channel))
     };
     let pieces = match slip {
         Slip::CutsCount => record.to_vec(),
@@ -732,8 +864,13 @@ enum By {
 
 /// "the pattern is judged first": the pattern text (1 to 5), then the record text (1, 2, then 8), then
 /// 11. "Its tables have 2,048 cells each."
-fn judge(pattern: &[u8], record: &[u8], faults: &mut Faults) -> Result<(Pattern, Vec<Piece>), (u8, By)> {
-    let pattern = read_pattern(pattern, faults).map_err(|refusal| (refusal, By::Pattern))?;
+fn judge(
+    pattern: &[u8],
+    record: &[u8],
+    slip: Slip,
+    faults: &mut Faults,
+) -> Result<(Pattern, Vec<Piece>), (u8, By)> {
+    let pattern = read_pattern(pattern, slip, faults).map_err(|refusal| (refusal, By::Pattern))?;
     let record = read_record(record, pattern.channels).map_err(|refusal| (refusal, By::Record))?;
     if cells_needed(&pattern) > 2_048 {
         return Err((11, By::Tables));
@@ -743,7 +880,7 @@ fn judge(pattern: &[u8], record: &[u8], faults: &mut Faults) -> Result<(Pattern,
 
 /// "A refusal prints one line and no other, as `refused 11`".
 fn answer(pattern: &[u8], record: &[u8]) -> String {
-    match judge(pattern, record, &mut Faults::default()) {
+    match judge(pattern, record, Slip::Right, &mut Faults::default()) {
         Err((refusal, _)) => format!("refused {refusal}\n"),
         Ok((pattern, record)) => score(&pattern, &record, Slip::Right).print(),
     }
@@ -854,7 +991,59 @@ fn must_occur() -> Vec<String> {
         names.push(format!("answered with a run, a test with {sign}"));
         names.push(format!("answered with a run, a guard with {sign}"));
     }
-    names.extend(SLIPS.map(|slip| format!("told apart: {slip:?}")));
+    names.extend(bands_must_occur());
+    let slips = SLIPS.iter().chain(&BAND_SLIPS).chain(&TEXT_SLIPS);
+    names.extend(slips.map(|slip| format!("told apart: {slip:?}")));
+    names
+}
+
+/// The same of bands. Where a kind of line or a cause is named, the band is on the line that decides.
+fn bands_must_occur() -> Vec<String> {
+    let mut names: Vec<String> = [
+        "refused 1 by the pattern",
+        "refused 2 by the record",
+        "refused 8 by the record",
+        "refused 11 by the tables",
+        "refused 2, a place",
+        "refused 3, a place",
+        "refused 4, a place",
+        "refused 5, a place",
+        "refused 2, an edge",
+        "refused 2, a line of another kind",
+        "refused 3, an end out of range",
+        "refused 3, an end out of range, beside a channel that is not there",
+        "refused 3, low above high",
+        "refused 3, low above high, beside a channel that is not there",
+        "refused 4, an end out of range",
+        "refused 4, low above high",
+        "refused 4, a channel that is not there",
+        "refused 5, a channel that is not there",
+        "behind the line that is refused",
+        "before the line that is refused",
+        "accepted, but no run",
+        "answered with a run, margin",
+        "answered with a run, sum",
+        "answered with a run, channel 0",
+        "answered with a run, another channel",
+        "answered with a run, beside a sign",
+        "answered with a run, beside a place without tests",
+        "answered with a run, equal ends",
+        "answered with a run, low -1000000",
+        "answered with a run, low 1000000",
+        "answered with a run, high -1000000",
+        "answered with a run, high 1000000",
+        "answered with a run, a value below it",
+        "answered with a run, a value at its low",
+        "answered with a run, a value inside it",
+        "answered with a run, a value at its high",
+        "answered with a run, a value above it",
+    ]
+    .map(|name| format!("band: {name}"))
+    .to_vec();
+    for count in 1..=4 {
+        names.push(format!("band: answered with a run, test {count} of its place"));
+        names.push(format!("band: answered with a run, {count} in one place"));
+    }
     names
 }
 
@@ -867,6 +1056,83 @@ fn sign_text(sign: Sign) -> &'static str {
     }
 }
 
+/// Whether a text has what a band begins with. Where it has not, no reading of bands matters.
+fn has_band(text: &[u8]) -> bool {
+    text.windows(4).any(|bytes| bytes == b"(in ")
+}
+
+/// What a refused case with bands shows of them.
+fn bands_refused(case: &Case, refusal: u8, by: By, faults: &Faults) -> Vec<String> {
+    let mut seen = Vec::new();
+    let mut see = |occurs: bool, name: &str| {
+        if occurs {
+            seen.push(format!("band: {name}"));
+        }
+    };
+    match by {
+        By::Pattern if refusal == 1 => see(true, "refused 1 by the pattern"),
+        By::Pattern => {
+            let lines: Vec<&[u8]> = case.pattern.split(|byte| *byte == b'\n').collect();
+            let (line, behind) = (lines[faults.line], &lines[faults.line + 1..]);
+            let kind = match line.split(|byte| *byte == b' ').next() {
+                Some(b"(place") => "a place",
+                Some(b"(edge") => "an edge",
+                _ => "a line of another kind",
+            };
+            see(has_band(line), &format!("refused {refusal}, {kind}"));
+            see(behind.iter().any(|line| has_band(line)), "behind the line that is refused");
+            see(lines[..faults.line].iter().any(|line| has_band(line)), "before the line that is refused");
+            let (end, above) = (faults.end_out_of_range, faults.low_above_high);
+            let channel = faults.no_such_channel;
+            for (occurs, causes) in [
+                (end, "an end out of range"),
+                (above, "low above high"),
+                (channel, "a channel that is not there"),
+                (end && channel, "an end out of range, beside a channel that is not there"),
+                (above && channel, "low above high, beside a channel that is not there"),
+            ] {
+                see(occurs, &format!("refused {refusal}, {causes}"));
+            }
+        }
+        By::Record => see(true, &format!("refused {refusal} by the record")),
+        By::Tables => see(true, &format!("refused {refusal} by the tables")),
+    }
+    seen
+}
+
+/// What a case that is answered with a run shows of its bands.
+fn bands_answered(pattern: &Pattern, record: &[Piece]) -> Vec<String> {
+    let mut seen = Vec::new();
+    let mut see = |occurs: bool, name: &str| {
+        if occurs {
+            seen.push(format!("band: answered with a run, {name}"));
+        }
+    };
+    let without_tests = pattern.places.iter().any(|place| place.tests.is_empty());
+    for place in &pattern.places {
+        let count = place.bands().count();
+        see(count > 0, &format!("{count} in one place"));
+        for (at, channel, low, high) in place.bands() {
+            see(true, if pattern.sum { "sum" } else { "margin" });
+            see(true, if channel == 0 { "channel 0" } else { "another channel" });
+            see(true, &format!("test {} of its place", at + 1));
+            see(count < place.tests.len(), "beside a sign");
+            see(without_tests, "beside a place without tests");
+            see(low == high, "equal ends");
+            see(low.abs() == 1_000_000, &format!("low {low}"));
+            see(high.abs() == 1_000_000, &format!("high {high}"));
+            for value in record.iter().map(|piece| piece.values[channel]) {
+                see(value < low, "a value below it");
+                see(value == low, "a value at its low");
+                see(value > low && value < high, "a value inside it");
+                see(value == high, "a value at its high");
+                see(value > high, "a value above it");
+            }
+        }
+    }
+    seen
+}
+
 /// What one case shows, each thing once.
 fn seen_in(case: &Case) -> (Vec<String>, u64, u64) {
     let mut seen: Vec<String> = Vec::new();
@@ -877,12 +1143,14 @@ fn seen_in(case: &Case) -> (Vec<String>, u64, u64) {
         }
     };
     let mut faults = Faults::default();
-    let judged = judge(&case.pattern, &case.record, &mut faults);
+    let judged = judge(&case.pattern, &case.record, Slip::Right, &mut faults);
     let refused = judged.as_ref().err().copied();
+    let bands = has_band(&case.pattern);
     match refused {
         Some((refusal, By::Pattern)) => {
             see(true, &format!("refused {refusal} by the pattern"));
-            let Faults { too_many, out_of_range, no_such_index } = faults;
+            let Faults { too_many, no_such_index, .. } = faults;
+            let out_of_range = faults.out_of_range || faults.low_above_high;
             see(too_many && out_of_range && no_such_index, "one line with causes for 4, 3 and 5");
             see(too_many && out_of_range, "one line with causes for 4 and 3");
             see(too_many && no_such_index, "one line with causes for 4 and 5");
@@ -892,12 +1160,20 @@ fn seen_in(case: &Case) -> (Vec<String>, u64, u64) {
         }
         Some((refusal, By::Record)) => {
             see(true, &format!("refused {refusal} by the record"));
-            let pattern = read_pattern(&case.pattern, &mut faults);
+            let pattern = read_pattern(&case.pattern, Slip::Right, &mut Faults::default());
             let cells = pattern.map_or(0, |pattern| cells_needed(&pattern));
             see(refusal == 8 && cells > 2_048, "refused 8 beside too many cells");
         }
         Some((refusal, By::Tables)) => see(true, &format!("refused {refusal} by the tables")),
         None => {}
+    }
+    if let (Some((refusal, by)), true) = (refused, bands) {
+        bands_refused(case, refusal, by, &faults).iter().for_each(|name| see(true, name));
+    }
+    let number = |refused: Option<(u8, By)>| refused.map(|(refusal, _)| refusal);
+    for slip in TEXT_SLIPS.iter().filter(|_| bands) {
+        let wrong = judge(&case.pattern, &case.record, *slip, &mut Faults::default()).err();
+        see(number(wrong) != number(refused), &format!("told apart: {slip:?}"));
     }
     if let Ok((pattern, record)) = &judged {
         let right = score(pattern, record, Slip::Right);
@@ -917,7 +1193,7 @@ fn seen_in(case: &Case) -> (Vec<String>, u64, u64) {
         see(pattern.edges.iter().any(|edge| edge.from == edge.to), "a loop from a place to itself");
         see(pattern.places.iter().any(|place| place.start && place.end), "a place of both kinds");
         let key = |edge: &Edge| {
-            let guards = edge.guards.iter().map(|guard| (sign_text(guard.sign), guard.index, guard.bound));
+            let guards = edge.guards.iter().map(|guard| (sign_text(guard.sign), guard.clock, guard.bound));
             (edge.from, edge.to, guards.collect::<Vec<_>>(), edge.resets.clone())
         };
         let keys: Vec<_> = pattern.edges.iter().map(key).collect();
@@ -949,9 +1225,12 @@ fn seen_in(case: &Case) -> (Vec<String>, u64, u64) {
             for place in &pattern.places {
                 see(true, &format!("answered with a run, a place with {} tests", place.tests.len()));
                 for test in &place.tests {
-                    see(true, &format!("answered with a run, a test with {}", sign_text(test.sign)));
+                    if let Against::Bound(sign, _) = test.against {
+                        see(true, &format!("answered with a run, a test with {}", sign_text(sign)));
+                    }
                 }
             }
+            bands_answered(pattern, record).iter().for_each(|name| see(true, name));
             for edge in &pattern.edges {
                 see(true, &format!("answered with a run, an edge with {} guards", edge.guards.len()));
                 see(true, &format!("answered with a run, an edge with {} resets", edge.resets.len()));
@@ -960,9 +1239,11 @@ fn seen_in(case: &Case) -> (Vec<String>, u64, u64) {
                 }
             }
         }
+        see(bands && !has_run, "band: accepted, but no run");
         // Where even the right listing takes long, the slips are not tried.
-        let slips: &[Slip] = if right.steps + right.total > SLIP_STEPS { &[] } else { &SLIPS };
-        for &slip in slips {
+        let cheap = right.steps + right.total <= SLIP_STEPS;
+        let slips = SLIPS.iter().chain(BAND_SLIPS.iter().filter(|_| bands));
+        for &slip in slips.filter(|_| cheap) {
             let wrong = score(pattern, record, slip);
             see(!wrong.given_up() && wrong.print() != printed, &format!("told apart: {slip:?}"));
         }

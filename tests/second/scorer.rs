@@ -1,10 +1,11 @@
 // A second scorer for the program `watch` of document 01 (bench margin monitor).
 //
-// It was written from document 01 alone, by hands that had not seen the
-// product's code. It has no monitor, no tables and no ceilings: for every end
-// it lists every run with real clocks, prices each one by the pricing rule, and
-// keeps the best, of equals the shortest. It is meant to be plainly right, and
-// is fast enough only for small windows and patterns.
+// It was written from document 01, and from R-1 of document 02 for bands, by
+// hands that had not seen the product's code. It has no monitor, no tables and
+// no ceilings: for every end it lists every run with real clocks, prices each
+// one by the pricing rule, and keeps the best, of equals the shortest. It is
+// meant to be plainly right, and is fast enough only for small windows and
+// patterns.
 //
 // Use: scorer [folder]. The folder holds pattern.txt and record.txt.
 //      scorer --many folders out. Each folder in `folders` so; its answer goes
@@ -29,7 +30,8 @@ const MOST_TESTS: usize = 4;
 const MOST_EDGES: usize = 32;
 const MOST_GUARDS: usize = 4;
 const MOST_GUARD_BOUND: i64 = 1_000;
-/// Test bounds and record values lie between minus this and this.
+/// Test bounds, a band's low and high, and record values lie between minus this
+/// and this.
 const MOST_VALUE: i64 = 1_000_000;
 const MOST_PIECES: usize = 4_096;
 const MOST_TICKS: i64 = 2_147_483_647;
@@ -78,11 +80,17 @@ enum Sign {
     GreaterOrEqual,
 }
 
-/// A test of a place: a sign, a channel and a bound.
+/// What a test measures a value against: a sign's bound, or a band's low and
+/// high.
+enum Measure {
+    Bound(Sign, i64),
+    Band(i64, i64),
+}
+
+/// A test of a place: a channel, and what its value is measured against.
 struct Test {
-    sign: Sign,
     channel: usize,
-    bound: i64,
+    measure: Measure,
 }
 
 struct Place {
@@ -164,8 +172,8 @@ impl Line<'_> {
         Ok(value)
     }
 
-    /// A test's bound or a record's value: a number, where a minus may stand
-    /// before a non-zero one.
+    /// A test's bound, a band's low or high, or a record's value: a number, where
+    /// a minus may stand before a non-zero one.
     fn number_or_minus(&mut self) -> Result<i64, Refusal> {
         let minus = self.takes(b"-");
         let value = self.number()?;
@@ -293,7 +301,8 @@ fn read_pattern_line(mut line: Line) -> Result<Pattern, Refusal> {
 
 /// A place: `start`, `plain`, `end` or `both` (start and end), with 0 to 4
 /// tests. A test is a sign, a channel, and a bound from -1,000,000 to
-/// 1,000,000. At most 16 places. `(place ` is already taken off the line.
+/// 1,000,000, or `in`, a channel, and two such numbers, low not above high. At
+/// most 16 places. `(place ` is already taken off the line.
 fn read_place_line(mut line: Line, pattern: &Pattern) -> Result<Place, Refusal> {
     // 2
     let (start, end) = if line.takes(b"start") {
@@ -307,15 +316,24 @@ fn read_place_line(mut line: Line, pattern: &Pattern) -> Result<Place, Refusal> 
     } else {
         return Err(BROKEN_FORM);
     };
-    let mut read: Vec<(Sign, i64, i64)> = Vec::new();
+    let mut read: Vec<(i64, Measure)> = Vec::new();
     while line.takes(b" (") {
-        let sign = line.sign()?;
-        line.expects(b" ")?;
-        let channel = line.number()?;
-        line.expects(b" ")?;
-        let bound = line.number_or_minus()?;
+        if line.takes(b"in ") {
+            let channel = line.number()?;
+            line.expects(b" ")?;
+            let low = line.number_or_minus()?;
+            line.expects(b" ")?;
+            let high = line.number_or_minus()?;
+            read.push((channel, Measure::Band(low, high)));
+        } else {
+            let sign = line.sign()?;
+            line.expects(b" ")?;
+            let channel = line.number()?;
+            line.expects(b" ")?;
+            let bound = line.number_or_minus()?;
+            read.push((channel, Measure::Bound(sign, bound)));
+        }
         line.expects(b")")?;
-        read.push((sign, channel, bound));
     }
     line.expects(b")")?;
     line.expects_end()?;
@@ -323,14 +341,20 @@ fn read_place_line(mut line: Line, pattern: &Pattern) -> Result<Place, Refusal> 
     if pattern.places.len() >= MOST_PLACES || read.len() > MOST_TESTS {
         return Err(TOO_MANY);
     }
-    // 3
-    if read.iter().any(|(_, _, bound)| !in_range(*bound, -MOST_VALUE, MOST_VALUE)) {
+    // 3: for a low above its high, too
+    let ranges_kept = |measure: &Measure| match *measure {
+        Measure::Bound(_, bound) => in_range(bound, -MOST_VALUE, MOST_VALUE),
+        Measure::Band(low, high) => {
+            in_range(low, -MOST_VALUE, MOST_VALUE) && in_range(high, low, MOST_VALUE)
+        }
+    };
+    if !read.iter().all(|(_, measure)| ranges_kept(measure)) {
         return Err(OUT_OF_RANGE);
     }
     // 5
     let mut tests = Vec::new();
-    for (sign, channel, bound) in read {
-        tests.push(Test { sign, channel: index(channel, pattern.channels)?, bound });
+    for (channel, measure) in read {
+        tests.push(Test { channel: index(channel, pattern.channels)?, measure });
     }
     Ok(Place { start, end, tests })
 }
@@ -558,12 +582,14 @@ fn list_steps<'a>(
 // ---------------------------------------------------------------------------
 
 /// A test's distance is value - bound for `>` and `>=`, bound - value for `<`
-/// and `<=`; it may be negative, and strict signs measure like the others.
+/// and `<=`; it may be negative, and strict signs measure like the others. In a
+/// band the nearer end counts, and a value outside is negative.
 fn distance(test: &Test, values: &[i64]) -> i64 {
     let value = values[test.channel];
-    match test.sign {
-        Sign::Greater | Sign::GreaterOrEqual => value - test.bound,
-        Sign::Less | Sign::LessOrEqual => test.bound - value,
+    match test.measure {
+        Measure::Bound(Sign::Greater | Sign::GreaterOrEqual, bound) => value - bound,
+        Measure::Bound(Sign::Less | Sign::LessOrEqual, bound) => bound - value,
+        Measure::Band(low, high) => (value - low).min(high - value),
     }
 }
 

@@ -1,5 +1,5 @@
-# The self-checks: texts whose answers document 01 gives, or follow from it by hand, to the scorer and to `watch` alike. To be
-# sourced by `run`.
+# The self-checks: texts whose answers document 01 and, for bands, R-1 of document 02 give, or follow from them by hand, to the
+# scorer and to `watch` alike. To be sourced by `run`.
 
 # expect NAME PATTERN RECORD ANSWER: the answer of both programs to two texts given here. The word `missing` leaves the file
 # out, `folder` puts a folder in its place. Every other text gets a last line feed, and the answer too.
@@ -185,6 +185,143 @@ expect "joining looks at every channel" '(pattern sum 2 0 2 2)
 2 0 14
 best 2 0 14'
 
+# Bands. With the window 1 1 each end has one run of one tick, so its score is the distance at that tick's value.
+band='(pattern margin 1 0 1 1)
+(place start (in 0 -3 9))
+(place end)
+(edge 0 1)'
+band_sum=$(swap "$band" margin sum)
+across='(piece 1 2)
+(piece 1 -5)
+(piece 1 12)
+(piece 1 3)'
+# 2 is inside (5 above low, 7 below high), -5 is 2 below low, 12 is 3 above high, 3 is 6 from both.
+across_lines='end begin score
+1 0 5
+2 1 -2
+3 2 -3
+4 3 6'
+expect "band, margin" "$band" "$across" "$across_lines
+best 4 3 6"
+expect "band, sum" "$band_sum" "$across" "$across_lines
+best 3 2 -3"
+# In margin a band is as the tests of its two ends. In sum these add up to 9 - -3 at every value.
+ends=$(swap "$band" '(in 0 -3 9)' '(>= 0 -3) (<= 0 9)')
+expect "a band's ends as two tests, margin" "$ends" "$across" "$across_lines
+best 4 3 6"
+expect "a band's ends as two tests, sum" "$(swap "$ends" margin sum)" "$across" 'end begin score
+1 0 12
+2 1 12
+3 2 12
+4 3 12
+best 1 0 12'
+# One stay over all four: the least is -3, the sum 5 - 2 - 3 + 6.
+expect "band, four pieces, margin" "$(swap "$band" '1 1)' '4 4)')" "$across" 'end begin score
+4 0 -3
+best 4 0 -3'
+expect "band, four pieces, sum" "$(swap "$band_sum" '1 1)' '4 4)')" "$across" 'end begin score
+4 0 6
+best 4 0 6'
+# 5 for the joined piece, then -3.
+expect "band, cut piece once" "$(swap "$band_sum" '1 1)' '4 4)')" '(piece 1 2)
+(piece 2 2)
+(piece 1 12)' 'end begin score
+4 0 2
+best 4 0 2'
+expect "at a band's ends and one beyond" "$band" '(piece 1 -4)
+(piece 1 -3)
+(piece 1 9)
+(piece 1 10)' 'end begin score
+1 0 -1
+2 1 0
+3 2 0
+4 3 -1
+best 2 1 0'
+expect "equal ends" "$(swap "$band" '-3 9' '7 7')" '(piece 1 4)
+(piece 1 7)
+(piece 1 9)' 'end begin score
+1 0 -3
+2 1 0
+3 2 -2
+best 2 1 0'
+expect "the widest band" "$(swap "$band" '-3 9' '-1000000 1000000')" '(piece 1 1000000)
+(piece 1 -1)
+(piece 1 -1000000)' 'end begin score
+1 0 0
+2 1 999999
+3 2 0
+best 2 1 999999'
+expect "a band at 1000000" "$(swap "$band" '-3 9' '1000000 1000000')" '(piece 1 -1000000)' 'end begin score
+1 0 -2000000
+best 1 0 -2000000'
+expect "a band at -1000000" "$(swap "$band_sum" '-3 9' '-1000000 -1000000')" '(piece 1 1000000)' 'end begin score
+1 0 -2000000
+best 1 0 -2000000'
+# With the other end far off, a band has the distances of the example's test.
+example=$(swap "$(swap "$margin" '(< 0 15)' '(in 0 -1000000 15)')" '(> 0 5)' '(in 0 5 1000000)')
+expect "example with bands, margin" "$example" "$record" "$margin_answer"
+expect "example with bands, sum" "$(swap "$example" margin sum)" "$record" "$sum_answer"
+
+# Beside other tests, at 5: 8 - 5 = 3, the band 9 - 5 = 4, and 5 - 1 = 4.
+beside=$(swap "$band" '(in 0 -3 9)' '(< 0 8) (in 0 -3 9) (> 0 1)')
+expect "a band between tests, margin" "$beside" '(piece 1 5)' 'end begin score
+1 0 3
+best 1 0 3'
+expect "a band between tests, sum" "$(swap "$beside" margin sum)" '(piece 1 5)' 'end begin score
+1 0 11
+best 1 0 11'
+# At 6 the first has 10 - 6 = 4, the second 6 - 4 = 2.
+two=$(swap "$band" '(in 0 -3 9)' '(in 0 0 10) (in 0 4 20)')
+expect "two bands, margin" "$two" '(piece 1 6)' 'end begin score
+1 0 2
+best 1 0 2'
+expect "two bands, sum" "$(swap "$two" margin sum)" '(piece 1 6)' 'end begin score
+1 0 6
+best 1 0 6'
+# Channel 0 has 50, which is 41 above high.
+expect "a band on channel 1" "$(swap "$(swap "$band" 'margin 1' 'margin 2')" 'in 0' 'in 1')" '(piece 1 50 2)' 'end begin score
+1 0 5
+best 1 0 5'
+expect "an end place's band is silent" "$(swap "$band" 'place end' 'place end (in 0 100 200)')" '(piece 1 2)' 'end begin score
+1 0 5
+best 1 0 5'
+
+# A band is one test of the four. At 2 each (< 0 9) has 7 and the band 5.
+band_is() { swap "$band" '(in 0 -3 9)' "$1"; }
+three='(< 0 9) (< 0 9) (< 0 9)'
+expect "a band as the fourth test" "$(swap "$(band_is "$three (in 0 -3 9)")" margin sum)" '(piece 1 2)' 'end begin score
+1 0 26
+best 1 0 26'
+expect "a band as the fifth test" "$(band_is "$three (< 0 9) (in 0 -3 9)")" '(piece 1 2)' 'refused 4'
+expect "four bands" "$(band_is "$(repeat 3 '(in 0 -3 9) ')(in 0 2 2)")" '(piece 1 2)' 'end begin score
+1 0 0
+best 1 0 0'
+expect "five bands" "$(band_is "$(repeat 4 '(in 0 -3 9) ')(in 0 2 2)")" '(piece 1 2)' 'refused 4'
+
+# A band's numbers, and which refusal comes first.
+expect "low above high" "$(band_is '(in 0 9 -3)')" '(piece 1 2)' 'refused 3'
+expect "low above high by 1" "$(band_is '(in 0 -3 -4)')" '(piece 1 2)' 'refused 3'
+expect "low -1000001" "$(band_is '(in 0 -1000001 9)')" '(piece 1 2)' 'refused 3'
+expect "high 1000001" "$(band_is '(in 0 -3 1000001)')" '(piece 1 2)' 'refused 3'
+expect "a band's channel 1 of 1" "$(band_is '(in 1 -3 9)')" '(piece 1 2)' 'refused 5'
+expect "a band's channel 8" "$(band_is '(in 8 -3 9)')" '(piece 1 2)' 'refused 5'
+expect "band, 3 before 5" "$(band_is '(in 1 9 -3)')" '(piece 1 2)' 'refused 3'
+expect "band, 3 before 5 of the test before" "$(band_is '(< 1 9) (in 0 9 -3)')" '(piece 1 2)' 'refused 3'
+expect "band, 4 before 3" "$(band_is "$three (< 0 9) (in 0 9 -3)")" '(piece 1 2)' 'refused 4'
+expect "band, 4 before 3 and 5" "$(band_is "(in 1 9 -3) $three (< 0 9)")" '(piece 1 2)' 'refused 4'
+expect "band, 2 before 4, 3 and 5" "$(band_is "(in 1 9 -3) $three (in 0 -3)")" '(piece 1 2)' 'refused 2'
+expect "low above high, then a form" "$(swap "$(band_is '(in 0 9 -3)')" 'place end' 'place End')" '(piece 1 2)' 'refused 3'
+expect "a channel, then low above high" "$(swap "$(band_is '(in 1 -3 9)')" 'place end' 'place end (in 0 9 -3)')" '(piece 1 2)' \
+    'refused 5'
+
+# Texts that are no band, and a band where a guard is due.
+for text in '(In 0 -3 9)' '(in 0 9)' '(in 0 -3 9 12)' '(in 0 -0 9)' '(in 0 -3 -0)' '(in 0 +7 9)' '(in 0 -3 09)' '(in -1 -3 9)' \
+    '(in0 -3 9)' '(in 0-3 9)' '(in  0 -3 9)' '(in 0 -3  9)' '(in 0 -3 9 )' '(< 0 -3 9)'; do
+    expect "no band: $text" "$(band_is "$text")" '(piece 1 2)' 'refused 2'
+done
+expect "no space before a band" "$(swap "$band" 'start (in' 'start(in')" '(piece 1 2)' 'refused 2'
+expect "a band in an edge" "$(swap "$margin" '(<= 0 2)' '(in 0 1 2)')" "$record" 'refused 2'
+
 # Patterns that never have a run, and files that are not there.
 expect "no start" "$(swap "$margin" start plain)" "$record" "$none"
 expect "no end" "$(swap "$margin" 'place end' 'place plain')" "$record" "$none"
@@ -201,6 +338,7 @@ expect "wrong count of values" "$margin" '(piece 2 10 10)' 'refused 8'
 # Points that document 01 leaves open (README.md).
 expect "line 1 out of range, no place" '(pattern margin 9 1 1 4)' "$record" 'refused 3'
 expect "a long number" "$(swap "$margin" 15 1$(repeat 30 0))" "$record" 'refused 3'
+expect "a long low and high" "$(band_is "(in 0 1$(repeat 30 0) 1$(repeat 30 0))")" '(piece 1 2)' 'refused 3'
 expect "a long index" "$(swap "$margin" '< 0 15' "< 1$(repeat 30 0) 15")" "$record" 'refused 5'
 expect "a long duration" "$margin" "(piece 1$(repeat 30 0) 10)" 'refused 8'
 expect "a long value" "$margin" "(piece 2 1$(repeat 30 0))" 'refused 8'

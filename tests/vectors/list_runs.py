@@ -3,8 +3,8 @@
 
     list_runs.py FILE..
 
-Written from document 01 alone, without a table: a run is kept by its place, its clocks (not held at a ceiling) and its
-worth, all runs are listed tick by tick, and only at the end of a call is the best of those that share a cell taken. It
+Written from documents 01 and 02 alone, without a table: a run is kept by its place, its clocks (not held at a ceiling) and
+its worth, all runs are listed tick by tick, and only at the end of a call is the best of those that share a cell taken. It
 prints each difference from what a file says, and counts; a difference makes its status 1. The files' tables that were not
 worked out by hand come from here.
 """
@@ -28,7 +28,7 @@ class Pattern:
         for words in lines[1:]:
             groups = [g.split() for g in re.findall(r"\(([^()]*)\)", " ".join(words))]
             if words[0] == "place":
-                self.places.append((words[1], [(g[0], int(g[1]), int(g[2])) for g in groups]))
+                self.places.append((words[1], [(g[0], int(g[1]), [int(n) for n in g[2:]]) for g in groups]))
             else:
                 guards = [(g[0], int(g[1]), int(g[2])) for g in groups if g[0] != "reset"]
                 resets = [int(n) for g in groups if g[0] == "reset" for n in g[1:]]
@@ -43,7 +43,7 @@ class Pattern:
         self.ends = [i for i, (kind, _) in enumerate(self.places) if kind in ("end", "both")]
 
     def distances(self, place, values):
-        return [values[c] - b if sign[0] == ">" else b - values[c] for sign, c, b in self.places[place][1]]
+        return [distance(sign, values[c], bounds) for sign, c, bounds in self.places[place][1]]
 
     def better(self, a, b):
         return a > b if self.margin else a < b
@@ -69,6 +69,13 @@ class Pattern:
         index, place = divmod(index, len(self.places))
         length, stage = divmod(index, 2)
         return length, stage, place, tuple(clocks)
+
+
+def distance(sign, value, bounds):
+    """To a test's bound; in a band the smaller of the distances to its low and to its high."""
+    if sign == "in":
+        return min(distance(">=", value, bounds[:1]), distance("<=", value, bounds[1:]))
+    return value - bounds[0] if sign[0] == ">" else bounds[0] - value
 
 
 def holds(sign, clock, bound):

@@ -31,6 +31,11 @@ held-leb (negsuc n) = by-test (leb (suc n) 1_000_000)
     (λ t. rw t (le-leb (suc (min 1_000_000 n)) 1_000_000 (omega (arith, leb-true (suc n) 1_000_000 t))))
     (λ t. rw t (lt-leb (suc (min 1_000_000 n)) 1_000_000 (omega (arith, leb-false (suc n) 1_000_000 t))))
 
+-- a number in its range is held as itself
+pub held-is : (z : ℤ) → leb (natAbs z) 1_000_000 ≡ true → held z ≡ z
+held-is (pos n) h = ap pos (omega (arith, leb-true n 1_000_000 h))
+held-is (negsuc n) h = ap negsuc (omega (arith, leb-true (suc n) 1_000_000 h))
+
 -- ---- tests over a list with one member more
 
 and-assoc : (a b c : Bool) → a && (b && c) ≡ (a && b) && c

@@ -1,5 +1,4 @@
 -- Laws: the lists of a line at a position.
-pub mod Ranges
 pub mod Gather
 pub mod Held
 pub mod TestsLaws

@@ -2,7 +2,7 @@
 ghost use mathlib.Core.Path.{_≡_};
 ghost use Prim.Native.Nat.{_≤_};
 ghost use lib.ListN.{length};
-ghost use Rattle.pattern.specs.Sound.{testInRange, guardInRange};
+ghost use Rattle.pattern.specs.Sound.{guardInRange};
 ghost use Rattle.text_scan.specs.Scan.{cap};
 ghost use Rattle.line_lists.specs.Lists.{
   noTests,
@@ -23,8 +23,8 @@ use pattern::Test;
 use text_scan::Found;
 use text_scan::Number;
 
-// The tests of a place as read so far: the first four, their number held at five, whether every bound is in range and
-// every channel known.
+// The tests of a place as read so far: the first four, their number held at five, whether all their numbers are in
+// range and every channel known.
 pub struct Tests {
     pub tests: [Test; 4],
     pub count: u8,
@@ -39,20 +39,6 @@ pub struct TestsRead {
     pub more: bool,
 }
 
-// A bound from -1,000,000 to 1,000,000.
-fn test_in_range(t: Test) -> bool
-    ensures { λ r. ⌜ r ≡ testInRange t ⌝ }
-{
-    let b = t.bound;
-    if b < -1_000_000 {
-        return false;
-    }
-    if 1_000_000 < b {
-        return false;
-    }
-    true
-}
-
 pub fn no_tests() -> Tests
     ensures { λ r. ⌜ r ≡ noTests ⌝ }
 {
@@ -60,6 +46,8 @@ pub fn no_tests() -> Tests
         sign: Sign::Less,
         channel: 0,
         bound: 0,
+        band: false,
+        high: 0,
     };
     Tests {
         tests: [t; 4],
@@ -74,7 +62,7 @@ fn add_test(s: Tests, t: Test, channels: u8) -> Tests
     ensures { λ r. ⌜ r ≡ addTest channels s t ⌝ }
 {
     let c = t.channel;
-    let inrange = line_parts::both(s.inrange, test_in_range(t));
+    let inrange = line_parts::both(s.inrange, pattern::slots::test_in_range(t));
     let known = line_parts::both(s.known, line_parts::less(c, channels));
     let count = s.count;
     let n = count as usize;

@@ -9,7 +9,7 @@ use Rattle.pattern.specs.declared.Kind.{Kind}
 use Rattle.pattern.specs.declared.Test.{Test}
 use Rattle.pattern.specs.declared.Guard.{Guard}
 use Rattle.pattern_text.specs.Bytes.{Bytes, broken}
-use Rattle.pattern_text.specs.Line.{sign, kind, weighing, test, guard}
+use Rattle.pattern_text.specs.Line.{testOf, sign, kind, weighing, test, guard}
 use Rattle.pattern_text.proofs.LineLaws.{sign-exact, kind-exact, weighing-exact, test-exact, guard-exact}
 use Rattle.text_scan.proofs.Rests.{rests-form, Met, Apart, met, unmet}
 use Rattle.line_parts.specs.declared.SignRead as signread
@@ -63,13 +63,13 @@ weighing-missing t at e = unmet weighing-apart (λ a. a) t (weighing .read (drop
 test-apart : Apart testread.the-variants.Value testread.the-variants.Broken
 test-apart = record { inj = λ a b n m e. ((cc), (cc)); apart = λ a n e. let z : _≡_ {A = ℕ} 0 1 = cc in omega arith }
 
-pub test-found : (t : Bytes) (at : ℕ) (y : Test) (n : ℕ) → testread.the-variants.Value y n ≡ testAt t at → Met heldTest t (test .read (drop at t)) y n
+pub test-found : (t : Bytes) (at : ℕ) (y : Test) (n : ℕ) → testread.the-variants.Value y n ≡ testAt t at → Met (λ x. heldTest (testOf x)) t (test .read (drop at t)) y n
 unfolding testAt
-test-found t at y n e = met test-apart heldTest t (test .read (drop at t)) (rests-form test-exact t at) y n e
+test-found t at y n e = met test-apart (λ x. heldTest (testOf x)) t (test .read (drop at t)) (rests-form test-exact t at) y n e
 
 pub test-missing : (t : Bytes) (at : ℕ) → testread.the-variants.Broken ≡ testAt t at → test .read (drop at t) ≡ broken
 unfolding testAt
-test-missing t at e = unmet test-apart heldTest t (test .read (drop at t)) e
+test-missing t at e = unmet test-apart (λ x. heldTest (testOf x)) t (test .read (drop at t)) e
 
 -- ---- a guard
 

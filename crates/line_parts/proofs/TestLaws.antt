@@ -1,26 +1,30 @@
 -- A test, a guard, and a space with a number, from their parts.
 use Prim.Native.Nat.{ℕ, _≤_, min}
 use native.Mathlib.Omega.{arith}
-use mathlib.Core.Path.{_≡_, refl, ap, _∙_}
-use lib.ListN.{length}
-use lib.IntN.{ℤ, pos, negsuc}
+use mathlib.Core.Path.{_≡_, refl, _∙_}
+use mathlib.Core.Logic.{inl, inr}
+use lib.ListN.{length, drop}
+use lib.IntN.{ℤ}
 use mir.Syntax.{w32}
-use mir.Val.{SFits, toZ, ofZ}
-use mir.Facts.{toZ-ofZ}
+use mir.Val.{toZ, ofZ}
 use Rattle.pattern.specs.declared.Sign.{Sign}
-use Rattle.pattern_text.specs.Bytes.{Bytes, bytes}
-use Rattle.pattern_text.specs.Form.{_▸_, _◂_, _⨾_, mapped, number}
-use Rattle.pattern_text.specs.Line.{test, guard}
+use Rattle.pattern.specs.declared.Test.{Test}
+use Rattle.pattern.specs.Sound.{sideOn, bandOn}
+use Rattle.pattern_text.specs.Bytes.{Bytes, bytes, Reading, got, broken}
+use Rattle.pattern_text.specs.Form.{giving, orElse, _▸_, _◂_, _⨾_, either, mapped, number}
+use Rattle.pattern_text.specs.Line as line
+use Rattle.pattern_text.specs.Line.{side, inside, sideTest, bandTest, test, guard}
 use Rattle.text_scan.specs.declared.Found as found
 use Rattle.text_scan.specs.declared.Number as numberread
 use Rattle.text_scan.specs.declared.Integer as integerread
-use Rattle.text_scan.specs.Scan.{held, wordAt, numberAt, numberThenAt, integerAt}
+use Rattle.text_scan.specs.Scan.{wordAt, numberAt, numberThenAt, integerThenAt}
 use Rattle.text_scan.proofs.Position.{end-drop}
-use Rattle.text_scan.proofs.Rests.{word-found, word-missing, then-found, then-missing, integer-found, integer-missing}
+use Rattle.text_scan.proofs.Rests.{word-found, word-missing, then-found, then-missing, integer-then-found, integer-then-missing}
+use Rattle.text_scan.proofs.Composed.{held-back}
 use Rattle.line_parts.specs.declared.SignRead as signread
 use Rattle.line_parts.specs.declared.TestRead as testread
 use Rattle.line_parts.specs.declared.GuardRead as guardread
-use Rattle.line_parts.specs.Parts.{signAt, testAt, guardAt, spacedAt}
+use Rattle.line_parts.specs.Parts.{signAt, testIn, sideAt, bandAt, testAt, guardAt, spacedAt}
 use Rattle.line_parts.proofs.Taken.{sign-found, sign-missing}
 
 pub sign-within : (t : Bytes) (at : ℕ) (s : Sign) (n : ℕ) → signread.the-variants.Value s n ≡ signAt t at → n ≤ length t
@@ -29,45 +33,88 @@ sign-within t at s n e = sign-found t at s n e .within
 pub then-within : (w t : Bytes) (at v n : ℕ) → numberread.the-variants.Value v n ≡ numberThenAt w t at → n ≤ length t
 then-within w t at v n e = then-found w t at v n e .within
 
-pub integer-within : (t : Bytes) (at : ℕ) (v : ℤ) (n : ℕ) → integerread.the-variants.Value v n ≡ integerAt t at → n ≤ length t
-integer-within t at v n e = integer-found t at v n e .within
+pub integer-within : (w t : Bytes) (at : ℕ) (z : ℤ) (n : ℕ) → integerread.the-variants.Value z n ≡ integerThenAt w t at → n ≤ length t
+integer-within w t at z n e = integer-then-found w t at z n e .within
 
-pub held-fits : (z : ℤ) → SFits w32 (held z)
-held-fits (pos n) = record { sfits = omega arith }
-held-fits (negsuc n) = record { sfits = omega arith }
-
--- ---- a test
+-- ---- a test by its sign
 
 module _ (t : Bytes) (at : ℕ) where
-  pub test-no-sign : signread.the-variants.Broken ≡ signAt t at → testread.the-variants.Broken ≡ testAt t at
-  unfolding testAt test mapped _⨾_
-  test-no-sign e = rw (sign-missing t at e) refl
+  pub side-no-sign : signread.the-variants.Broken ≡ signAt t at → testread.the-variants.Broken ≡ sideAt t at
+  unfolding sideAt sideTest _⨾_
+  side-no-sign e = rw (sign-missing t at e) refl
 
   module _ (s : Sign) (n : ℕ) (sign : signread.the-variants.Value s n ≡ signAt t at) where
-    pub test-no-channel : numberread.the-variants.Broken ≡ numberThenAt (bytes " ") t n → testread.the-variants.Broken ≡ testAt t at
-    unfolding testAt test mapped _⨾_ _◂_ number
-    test-no-channel e = rw (sign-found t at s n sign .is, then-missing (bytes " ") t n e) refl
+    pub side-no-channel : numberread.the-variants.Broken ≡ numberThenAt (bytes " ") t n → testread.the-variants.Broken ≡ sideAt t at
+    unfolding sideAt sideTest _⨾_ _◂_ number
+    side-no-channel e = rw (sign-found t at s n sign .is, then-missing (bytes " ") t n e) refl
 
     module _ (c m : ℕ) (channel : numberread.the-variants.Value c m ≡ numberThenAt (bytes " ") t n) where
-      pub test-no-bound : integerread.the-variants.Broken ≡ integerAt t m → testread.the-variants.Broken ≡ testAt t at
-      unfolding testAt test mapped _⨾_ _◂_ number
-      test-no-bound e = rw (sign-found t at s n sign .is, then-found (bytes " ") t n c m channel .is, integer-missing t m e) refl
+      pub side-no-bound : integerread.the-variants.Broken ≡ integerThenAt (bytes ")") t m → testread.the-variants.Broken ≡ sideAt t at
+      unfolding sideAt sideTest _⨾_ _◂_ number
+      side-no-bound e = rw (sign-found t at s n sign .is, then-found (bytes " ") t n c m channel .is, integer-then-missing (bytes ")") t m e) refl
 
-      module _ (z : ℤ) (l : ℕ) (bound : integerread.the-variants.Value z l ≡ integerAt t m) where
-        pub test-no-end : found.the-variants.Nothing ≡ wordAt (bytes ")") t l → testread.the-variants.Broken ≡ testAt t at
-        unfolding testAt test mapped _⨾_ _◂_ number
-        test-no-end e = rw (sign-found t at s n sign .is, then-found (bytes " ") t n c m channel .is, integer-found t m z l bound .is, word-missing (bytes ")") t l e) refl
+      pub side-is : (z : ℤ) (k x : ℕ) → integerread.the-variants.Value z k ≡ integerThenAt (bytes ")") t m → x ≡ min 255 c → testread.the-variants.Value (sideOn s x (toZ w32 (ofZ w32 z))) k ≡ sideAt t at
+      unfolding sideAt sideTest _⨾_ _◂_ number
+      side-is z k x e i255 =
+          let C = then-found (bytes " ") t n c m channel in
+          let Z = integer-then-found (bytes ")") t m z k e in
+          let small : x ≡ min 255 (C .raw) = omega (arith, C .made) in
+          rw (sign-found t at s n sign .is, C .is, Z .is, end-drop t k (Z .within))
+          (λ i. testread.the-variants.Value (sideOn (sign-found t at s n sign .made i) (small i) ((held-back z (Z .raw) (Z .made) ∙ Z .made) i)) k)
 
-        pub test-is : (k x : ℕ) → found.the-variants.At k ≡ wordAt (bytes ")") t l → x ≡ min 255 c → testread.the-variants.Value (record { sign = s; channel = x; bound = toZ w32 (ofZ w32 z) }) k ≡ testAt t at
-        unfolding testAt test mapped _⨾_ _◂_ number
-        test-is k x e i255 =
+-- ---- a band
+
+module _ (t : Bytes) (at : ℕ) where
+  pub band-no-word : found.the-variants.Nothing ≡ wordAt (bytes " (in ") t at → testread.the-variants.Broken ≡ bandAt t at
+  unfolding bandAt bandTest _▸_ _⨾_
+  band-no-word e = rw (word-missing (bytes " (in ") t at e) refl
+
+  module _ (n : ℕ) (begins : found.the-variants.At n ≡ wordAt (bytes " (in ") t at) where
+    pub band-no-channel : numberread.the-variants.Broken ≡ numberThenAt (bytes " ") t n → testread.the-variants.Broken ≡ bandAt t at
+    unfolding bandAt bandTest _▸_ _⨾_ _◂_ number
+    band-no-channel e = rw (word-found (bytes " (in ") t at n begins .is, then-missing (bytes " ") t n e) refl
+
+    module _ (c m : ℕ) (channel : numberread.the-variants.Value c m ≡ numberThenAt (bytes " ") t n) where
+      pub band-no-low : integerread.the-variants.Broken ≡ integerThenAt (bytes " ") t m → testread.the-variants.Broken ≡ bandAt t at
+      unfolding bandAt bandTest _▸_ _⨾_ _◂_ number
+      band-no-low e = rw (word-found (bytes " (in ") t at n begins .is, then-found (bytes " ") t n c m channel .is, integer-then-missing (bytes " ") t m e) refl
+
+      module _ (z : ℤ) (l : ℕ) (low : integerread.the-variants.Value z l ≡ integerThenAt (bytes " ") t m) where
+        pub band-no-high : integerread.the-variants.Broken ≡ integerThenAt (bytes ")") t l → testread.the-variants.Broken ≡ bandAt t at
+        unfolding bandAt bandTest _▸_ _⨾_ _◂_ number
+        band-no-high e = rw (word-found (bytes " (in ") t at n begins .is, then-found (bytes " ") t n c m channel .is, integer-then-found (bytes " ") t m z l low .is, integer-then-missing (bytes ")") t l e) refl
+
+        pub band-is : (y : ℤ) (k x : ℕ) → integerread.the-variants.Value y k ≡ integerThenAt (bytes ")") t l → x ≡ min 255 c → testread.the-variants.Value (bandOn x (toZ w32 (ofZ w32 z)) (toZ w32 (ofZ w32 y))) k ≡ bandAt t at
+        unfolding bandAt bandTest _▸_ _⨾_ _◂_ number
+        band-is y k x e i255 =
             let C = then-found (bytes " ") t n c m channel in
-            let Z = integer-found t m z l bound in
-            let W = word-found (bytes ")") t l k e in
+            let Z = integer-then-found (bytes " ") t m z l low in
+            let Y = integer-then-found (bytes ")") t l y k e in
             let small : x ≡ min 255 (C .raw) = omega (arith, C .made) in
-            let same : toZ w32 (ofZ w32 z) ≡ held (Z .raw) = ap (λ (y : ℤ). toZ w32 (ofZ w32 y)) (Z .made) ∙ toZ-ofZ (held-fits (Z .raw)) in
-            rw (sign-found t at s n sign .is, C .is, Z .is, W .is, end-drop t k (W .within))
-            (λ i. testread.the-variants.Value (record { sign = sign-found t at s n sign .made i; channel = small i; bound = same i }) k)
+            rw (word-found (bytes " (in ") t at n begins .is, C .is, Z .is, Y .is, end-drop t k (Y .within))
+            (λ i. testread.the-variants.Value (bandOn (small i) ((held-back z (Z .raw) (Z .made) ∙ Z .made) i) ((held-back y (Y .raw) (Y .made) ∙ Y .made) i)) k)
+
+-- ---- either
+
+module _ (t : Bytes) (at : ℕ) where
+  pub side-first : (y : Test) (n : ℕ) → testread.the-variants.Value y n ≡ sideAt t at → testread.the-variants.Value y n ≡ testAt t at
+  unfolding sideAt testAt test mapped either
+  side-first y n e = go (sideTest .read (drop at t)) e
+    where
+      go : (r : Reading (Sign × (ℕ × ℤ))) → testread.the-variants.Value y n ≡ testIn t (giving (λ (s, (c, b)). side s c b) r)
+          → testread.the-variants.Value y n ≡ testIn t (giving line.testIn (orElse (giving inl r) (giving inr (bandTest .read (drop at t)))))
+      go (got a r) e = e
+      go broken e = absurd (let z : _≡_ {A = ℕ} 0 1 = cc in omega arith)
+
+  pub band-next : (r : testread.TestRead) → testread.the-variants.Broken ≡ sideAt t at → r ≡ bandAt t at → r ≡ testAt t at
+  unfolding sideAt bandAt testAt test mapped either
+  band-next r e h = go (sideTest .read (drop at t)) (bandTest .read (drop at t)) e h
+    where
+      go : (q : Reading (Sign × (ℕ × ℤ))) (w : Reading (ℕ × (ℤ × ℤ))) → testread.the-variants.Broken ≡ testIn t (giving (λ (s, (c, b)). side s c b) q)
+          → r ≡ testIn t (giving (λ (c, (l, h)). inside c l h) w) → r ≡ testIn t (giving line.testIn (orElse (giving inl q) (giving inr w)))
+      go (got a u) w e h = absurd (let z : _≡_ {A = ℕ} 0 1 = cc in omega arith)
+      go broken (got a u) e h = h
+      go broken broken e h = h
 
 -- ---- a guard
 

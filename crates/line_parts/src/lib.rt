@@ -4,7 +4,7 @@ ghost use mathlib.Core.Bool.{_&&_};
 ghost use Prim.Native.Nat.{_≤_, min};
 ghost use lib.Dec.{leb, ltb};
 ghost use lib.ListN.{length};
-ghost use Rattle.line_parts.specs.Parts.{signAt, kindAt, weighingAt, testAt, guardAt, spacedAt};
+ghost use Rattle.line_parts.specs.Parts.{signAt, kindAt, weighingAt, sideAt, bandAt, testAt, guardAt, spacedAt};
 use pattern::Guard;
 use pattern::Kind;
 use pattern::Sign;
@@ -105,10 +105,10 @@ pub fn bound(value: u32) -> u16
     if value < 65_535 { value as u16 } else { 65_535 }
 }
 
-// A test: a sign, a channel, a bound.
-pub fn test_at(text: &[u8], at: usize) -> TestRead
+// A test by its sign: a sign, a channel, a bound.
+fn side_at(text: &[u8], at: usize) -> TestRead
     requires { ⌜ at ≤ length (now text) ⌝ }
-    ensures { λ r. ⌜ r ≡ testAt (now (text .entry)) at ⌝ }
+    ensures { λ r. ⌜ r ≡ sideAt (now (text .entry)) at ⌝ }
 {
     let SignRead::Value(sign, start) = sign_at(text, at) else {
         return TestRead::Broken;
@@ -116,10 +116,7 @@ pub fn test_at(text: &[u8], at: usize) -> TestRead
     let Number::Value(channel, middle) = text_scan::number_then(text, start, b" ") else {
         return TestRead::Broken;
     };
-    let Integer::Value(bound, end) = text_scan::integer_at(text, middle) else {
-        return TestRead::Broken;
-    };
-    let Found::At(next) = text_scan::word_at(text, end, b")") else {
+    let Integer::Value(bound, next) = text_scan::integer_then(text, middle, b")") else {
         return TestRead::Broken;
     };
     let channel = index(channel);
@@ -128,9 +125,52 @@ pub fn test_at(text: &[u8], at: usize) -> TestRead
             sign,
             channel,
             bound,
+            band: false,
+            high: 0,
         },
         next,
     )
+}
+
+// A band: a channel, a low, a high.
+fn band_at(text: &[u8], at: usize) -> TestRead
+    requires { ⌜ at ≤ length (now text) ⌝ }
+    ensures { λ r. ⌜ r ≡ bandAt (now (text .entry)) at ⌝ }
+{
+    let Found::At(start) = text_scan::word_at(text, at, b" (in ") else {
+        return TestRead::Broken;
+    };
+    let Number::Value(channel, middle) = text_scan::number_then(text, start, b" ") else {
+        return TestRead::Broken;
+    };
+    let Integer::Value(low, rest) = text_scan::integer_then(text, middle, b" ") else {
+        return TestRead::Broken;
+    };
+    let Integer::Value(high, next) = text_scan::integer_then(text, rest, b")") else {
+        return TestRead::Broken;
+    };
+    let channel = index(channel);
+    TestRead::Value(
+        Test {
+            sign: Sign::Less,
+            channel,
+            bound: low,
+            band: true,
+            high,
+        },
+        next,
+    )
+}
+
+// A test of either kind.
+pub fn test_at(text: &[u8], at: usize) -> TestRead
+    requires { ⌜ at ≤ length (now text) ⌝ }
+    ensures { λ r. ⌜ r ≡ testAt (now (text .entry)) at ⌝ }
+{
+    match side_at(text, at) {
+        TestRead::Value(t, next) => TestRead::Value(t, next),
+        TestRead::Broken => band_at(text, at),
+    }
 }
 
 // A guard: a sign, a clock, a bound.

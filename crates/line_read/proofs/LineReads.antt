@@ -2,17 +2,16 @@
 use Prim.Native.Nat.{ℕ, _≤_}
 use native.Mathlib.Omega.{arith}
 use mathlib.Core.Path.{_≡_, refl, sym, ap, _∙_}
-use mathlib.Core.List.{List, [], _∷_}
+use mathlib.Core.List.{List, [], _∷_, map}
 use mathlib.Core.Bool.{true, false}
 use lib.ListN.{length, drop}
 use Rattle.weighting.specs.declared.Weighing.{Weighing}
 use Rattle.pattern.specs.declared.Kind.{Kind}
 use Rattle.pattern.specs.declared.Kind.the-variants.{Plain}
-use Rattle.pattern.specs.declared.Test.{Test}
 use Rattle.pattern.specs.declared.Guard.{Guard}
 use Rattle.pattern_text.specs.Bytes.{Bytes, bytes, Reading, got, broken}
 use Rattle.pattern_text.specs.Form.{giving, orElse, _▸_, _◂_, _⨾_, many, mapped, number}
-use Rattle.pattern_text.specs.Line.{test, guard, bracket, resets, headerLine, placeLine, edgeLine}
+use Rattle.pattern_text.specs.Line.{TestLine, testOf, test, guard, bracket, resets, headerLine, placeLine, edgeLine}
 use Rattle.pattern_text.proofs.FormLaws.{many-exact}
 use Rattle.pattern_text.proofs.LineLaws.{test-exact, test-long, guard-exact, guard-long, resets-exact}
 use Rattle.text_scan.specs.declared.Found as found
@@ -45,9 +44,9 @@ weighing-within t at w n e = weighing-found t at w n e .within
 -- ---- what the lists were read as
 
 pub record TestsFound (channels : ℕ) (t : Bytes) (at : ℕ) (r : TestsRead) : Type 0 where
-  pub members : List Test
+  pub members : List TestLine
   pub is : many test .read (drop at t) ≡ got members (drop (r .next) t)
-  pub made : r .tests ≡ gatheredTests channels members
+  pub made : r .tests ≡ gatheredTests channels (map testOf members)
   pub within : r .next ≤ length t
 
 tests-found : (channels : ℕ) (t : Bytes) (at : ℕ) (r : TestsRead) → r ≡ testsAt channels t at → TestsFound channels t at r

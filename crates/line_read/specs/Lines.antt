@@ -1,4 +1,5 @@
 -- The three kinds of line at a position, each with its line feed.
+use mathlib.Core.List.{map}
 use Prim.Native.Nat.{ℕ, min}
 use mathlib.Core.Bool.{true, false}
 use lib.ListN.{drop}
@@ -6,7 +7,7 @@ use Rattle.pattern.specs.declared.Kind.the-variants.{Plain}
 use Rattle.pattern_text.specs.Bytes.{Bytes, Reading, got, broken}
 use Rattle.pattern_text.specs.Form.{_◂_}
 use Rattle.pattern_text.specs.Line as line
-use Rattle.pattern_text.specs.Line.{headerLine, placeLine, edgeLine}
+use Rattle.pattern_text.specs.Line.{testOf, headerLine, placeLine, edgeLine}
 use Rattle.text_scan.specs.Scan.{endOf, placed, cap}
 use Rattle.line_read.specs.declared.Header.{Header}
 use Rattle.line_read.specs.declared.HeaderRead.{HeaderRead}
@@ -25,7 +26,7 @@ headerAt t at = placed (λ h. Value (heldHeader h)) Broken t ((headerLine ◂ "\
 
 -- a place's line; nothing where there is none
 abbrev pub placeIn : (channels : ℕ) → Bytes → Reading line.PlaceLine → PlaceRead
-placeIn channels t (got l r) = record { found = true; kind = l .kind; tests = gatheredTests channels (l .tests); next = endOf t r }
+placeIn channels t (got l r) = record { found = true; kind = l .kind; tests = gatheredTests channels (map testOf (l .tests)); next = endOf t r }
 placeIn channels t broken = record { found = false; kind = Plain; tests = noTests; next = 0 }
 
 unfoldable pub placeAt : (channels : ℕ) → Bytes → ℕ → PlaceRead

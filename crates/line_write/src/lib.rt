@@ -7,8 +7,8 @@ use pattern::Place;
 use pattern::Sign;
 use pattern::Test;
 use pattern::clocks::in_use;
+use text_put::put_bound_and;
 use text_put::put_byte;
-use text_put::put_integer;
 use text_put::put_number;
 use text_put::put_number_and;
 use text_put::put_word;
@@ -16,7 +16,7 @@ use weighting::Weighing;
 ghost use Rattle.pattern.specs.InUse.{testsOf, guardsOf, placesOf, edgesOf};
 ghost use Rattle.pattern_text.specs.Bytes.{bytes};
 ghost use Rattle.pattern_text.specs.Form.{writeMany};
-ghost use Rattle.pattern_text.specs.Line.{signWord, kindWord, weighingWord, test, guard, writeResets};
+ghost use Rattle.pattern_text.specs.Line.{testLineOf, signWord, kindWord, weighingWord, sideTest, bandTest, test, guard, writeResets};
 ghost use Rattle.pattern_text.specs.Text.{flagged, renderOf};
 ghost use Rattle.text_put.specs.Put.{Put};
 ghost use Rattle.line_write.specs.Lines.{headerText, placeText, edgeText};
@@ -57,14 +57,34 @@ fn put_weighing(text: &mut [u8], at: usize, w: Weighing) -> usize
 }
 
 // ` (< 0 15)`
-fn put_test(text: &mut [u8], at: usize, t: Test) -> usize
-    ensures { λ r. ⌜ Put (now (text .entry)) (now (text .exit)) at r (test .write t) ⌝ }
+fn put_side(text: &mut [u8], at: usize, s: Sign, channel: u8, bound: i32) -> usize
+    ensures { λ r. ⌜ Put (now (text .entry)) (now (text .exit)) at r (sideTest .write (s, (channel, bound))) ⌝ }
 {
-    let s = t.sign;
     let n = put_sign(text, at, s);
-    let n = put_number_and(text, n, t.channel as u64, b' ');
-    let n = put_integer(text, n, t.bound as i64);
-    put_byte(text, n, b')')
+    let n = put_number_and(text, n, channel as u64, b' ');
+    put_bound_and(text, n, bound, b')')
+}
+
+// ` (in 0 -5 5)`
+fn put_band(text: &mut [u8], at: usize, channel: u8, low: i32, high: i32) -> usize
+    ensures { λ r. ⌜ Put (now (text .entry)) (now (text .exit)) at r (bandTest .write (channel, (low, high))) ⌝ }
+{
+    let n = put_word(text, at, b" (in ");
+    let n = put_number_and(text, n, channel as u64, b' ');
+    let n = put_bound_and(text, n, low, b' ');
+    put_bound_and(text, n, high, b')')
+}
+
+// A test of either kind.
+fn put_test(text: &mut [u8], at: usize, t: Test) -> usize
+    ensures { λ r. ⌜ Put (now (text .entry)) (now (text .exit)) at r (test .write (testLineOf t)) ⌝ }
+{
+    if t.band {
+        put_band(text, at, t.channel, t.bound, t.high)
+    } else {
+        let s = t.sign;
+        put_side(text, at, s, t.channel, t.bound)
+    }
 }
 
 // ` (< 0 3)`
@@ -79,7 +99,7 @@ fn put_guard(text: &mut [u8], at: usize, g: Guard) -> usize
 
 // The tests in use, one after the other.
 fn put_tests(text: &mut [u8], at: usize, l: Place) -> usize
-    ensures { λ r. ⌜ Put (now (text .entry)) (now (text .exit)) at r (writeMany (test .write) (testsOf l)) ⌝ }
+    ensures { λ r. ⌜ Put (now (text .entry)) (now (text .exit)) at r (writeMany (λ t. test .write (testLineOf t)) (testsOf l)) ⌝ }
 {
     let count = in_use(l.count, 4);
     let mut n = at;

@@ -2,32 +2,36 @@
 use Prim.Native.Nat.{ℕ, zero, suc, _+_, _*_, _≤_, _<_, min}
 use native.Mathlib.Nat.{one-le-mul}
 use native.Mathlib.Omega.{arith}
-use mathlib.Core.Path.{_≡_, refl, ap, subst}
+use mathlib.Core.Path.{_≡_, refl, sym, ap, subst, _∙_}
 use mathlib.Core.Logic.{_⊎_, inl, inr, ⊎-elim}
-use mathlib.Core.List.{List, [], _∷_, flatMap, List·Memᴰ, List·Memᴰ·head, List·Memᴰ·tail, List·Memᴰ·cases-cons, List·Memᴰ·not-nil}
-use mathlib.Core.Bool.{Bool, true, false, cond}
-use borrow.Author.Tests.{eq-eqb}
+use mathlib.Core.List.{List, [], _∷_, map, map-append, flatMap, List·Memᴰ, List·Memᴰ·head, List·Memᴰ·tail, List·Memᴰ·cases-cons, List·Memᴰ·not-nil}
+use mathlib.Core.Bool.{Bool, true, false, cond, _&&_}
+use borrow.Author.Tests.{eq-eqb, leb-true}
 use lib.Dec.{T, leb, ltb, eqb, leb→le, le→leb, ltb→lt, lt→ltb}
-use lib.IntN.{ℤ, pos, negsuc, natAbs}
+use lib.IntN.{ℤ, pos, negsuc, natAbs, _-ℤ_}
 use lib.Signed.{leZ}
 use Rattle.integers.specs.Least.{minZ}
+use Rattle.integers.proofs.Tests.{and-in, and-l, and-r}
+use Rattle.integers.proofs.Linear.{pos-is, sub-is, min-is, T-le-of, of-T-le}
 use Rattle.integers.proofs.Ranges.{abs-sub}
 use Rattle.integers.proofs.Order.{le-through, le-self}
-use Rattle.integers.proofs.Least.{min-left, min-right}
-use Rattle.weighting.specs.Weighting.{combineFrom}
+use Rattle.integers.proofs.Least.{min-left, min-right, min-assoc}
+use Rattle.weighting.specs.Weighting.{combineFrom, combineAll}
+use Rattle.weighting.proofs.Worths.{combineFrom-append}
 use Rattle.weighting.specs.Weightings.{margin}
 use Rattle.pattern.specs.declared.Sign.{Sign}
 use Rattle.pattern.specs.declared.Sign.the-variants.{Less, AtMost, More, AtLeast}
 use Rattle.pattern.specs.declared.Guard.{Guard}
 use Rattle.pattern.specs.declared.Pattern.{Pattern}
 use Rattle.pattern.specs.InUse.{guardsOf, edgesOf}
-use Rattle.pattern.specs.Sound.{soundOf}
+use Rattle.pattern.specs.Sound.{sideOn, bandOn, boundInRange, bandInRange, testInRange, soundOf}
 use Rattle.pattern.specs.Clocks.{onSide}
-use Rattle.pattern.specs.Distance.{distanceFrom, distancesOf, placeWorth, DistancesInRange, MarginIsLeast}
+use Rattle.pattern.specs.Distance.{readingOf, distanceFrom, distanceInside, distanceIn, distancesOf, placeWorth, DistancesInRange, BandSign, BandIsTwoTests, MarginIsLeast}
 use Rattle.pattern.specs.declared.Counted.the-variants.{Cells, Refused}
 use Rattle.pattern.specs.declared.Refusal.the-variants.{UnsoundPattern}
 use Rattle.pattern.specs.Cells.{boundsOn, largest, ceilingOf, clockCells, cellsFor, cellsNeeded, cellsOf, countedAs, GuardsSeeHeldClocks, SomeCell, CellsNumbers}
-use Rattle.pattern.proofs.SoundLaws.{parts}
+use Rattle.pattern.proofs.SoundLaws.{parts, band-parts}
+use Rattle.pattern.proofs.DistanceLaws.{inside-size}
 
 -- ---- two tests that pass together are equal
 
@@ -82,13 +86,48 @@ cells-numbers p = by (soundOf p)
 -- ---- distances
 
 pub distances-in-range : DistancesInRange
-distances-in-range t v b h = by (t .sign)
+unfolding testInRange boundInRange
+distances-in-range t v e h = either (t .band) e
   where
-    by : (s : Sign) → natAbs (distanceFrom s (t .bound) v) ≤ 2_000_000
-    by Less = omega (arith, abs-sub (t .bound) v, abs-sub v (t .bound))
-    by AtMost = omega (arith, abs-sub (t .bound) v, abs-sub v (t .bound))
-    by More = omega (arith, abs-sub (t .bound) v, abs-sub v (t .bound))
-    by AtLeast = omega (arith, abs-sub (t .bound) v, abs-sub v (t .bound))
+    by : (s : Sign) → natAbs (t .bound) ≤ 1_000_000 → natAbs (distanceFrom s (t .bound) v) ≤ 2_000_000
+    by Less b = omega (arith, abs-sub (t .bound) v, abs-sub v (t .bound))
+    by AtMost b = omega (arith, abs-sub (t .bound) v, abs-sub v (t .bound))
+    by More b = omega (arith, abs-sub (t .bound) v, abs-sub v (t .bound))
+    by AtLeast b = omega (arith, abs-sub (t .bound) v, abs-sub v (t .bound))
+
+    either : (b : Bool) → cond b (bandInRange (t .bound) (t .high)) (boundInRange (t .bound)) ≡ true
+        → natAbs (cond b (distanceInside (t .bound) (t .high) v) (distanceFrom (t .sign) (t .bound) v)) ≤ 2_000_000
+    either true e =
+        let r = band-parts (t .bound) (t .high) e in
+        omega (arith, r .low, r .high, inside-size (t .bound) (t .high) v, abs-sub v (t .bound), abs-sub (t .high) v)
+    either false e = by (t .sign) (leb-true _ _ e)
+
+-- ---- bands
+
+pub band-sign : BandSign
+band-sign c l h v = agree _ _ inside within
+  where
+    inside : T (leZ (pos 0) (minZ (v -ℤ l) (h -ℤ v))) → T (leZ l v && leZ v h)
+    inside t =
+        and-in (leZ l v) (leZ v h)
+        (of-T-le l v (omega (arith, pos-is 0, T-le-of (pos 0) (minZ (v -ℤ l) (h -ℤ v)) t, min-is (v -ℤ l) (h -ℤ v), sub-is v l, sub-is h v)))
+        (of-T-le v h (omega (arith, pos-is 0, T-le-of (pos 0) (minZ (v -ℤ l) (h -ℤ v)) t, min-is (v -ℤ l) (h -ℤ v), sub-is v l, sub-is h v)))
+
+    within : T (leZ l v && leZ v h) → T (leZ (pos 0) (minZ (v -ℤ l) (h -ℤ v)))
+    within t =
+        of-T-le (pos 0) (minZ (v -ℤ l) (h -ℤ v))
+        (omega (arith, pos-is 0, T-le-of l v (and-l (leZ l v) (leZ v h) t), T-le-of v h (and-r (leZ l v) (leZ v h) t), min-is (v -ℤ l) (h -ℤ v), sub-is v l, sub-is h v))
+
+-- the least of a list in which two stand for their least
+pub band-is-two-tests : BandIsTwoTests
+unfolding placeWorth distancesOf combineFrom
+band-is-two-tests l m before after c low high p q s =
+    rw (p, q, map-append (distanceIn s) before (bandOn c low high ∷ after), map-append (distanceIn s) before (sideOn AtLeast c low ∷ sideOn AtMost c high ∷ after))
+    (combineFrom-append margin (margin .unit) (map (distanceIn s) before) (distanceIn s (bandOn c low high) ∷ map (distanceIn s) after)
+    ∙ ap (λ (z : ℤ). combineFrom margin z (map (distanceIn s) after)) (sym (min-assoc (combineAll margin (map (distanceIn s) before)) (readingOf s c -ℤ low) (high -ℤ readingOf s c)))
+    ∙ sym (combineFrom-append margin (margin .unit) (map (distanceIn s) before) (distanceIn s (sideOn AtLeast c low) ∷ distanceIn s (sideOn AtMost c high) ∷ map (distanceIn s) after)))
+
+-- ---- margins
 
 -- the least of a and a list: a itself or one of the list, and no more than any of them
 least-one : (a : ℤ) (l : List ℤ) → (combineFrom margin a l ≡ a) ⊎ List·Memᴰ (combineFrom margin a l) l

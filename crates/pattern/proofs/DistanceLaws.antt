@@ -1,9 +1,10 @@
 -- A difference of two i32 as the machine makes it in 64 bits, and its negation: exact, and in range. A place's worth,
 -- test by test.
-use Prim.Native.Nat.{ℕ, _+_, _^_, _<_, _≤_}
+use Prim.Native.Nat.{ℕ, _+_, _^_, _<_, _≤_, max}
 use native.Mathlib.Omega.{arith}
 use mathlib.Core.Path.{_≡_, refl, sym, _∙_}
 use mathlib.Core.List.{List, [], _∷_, map, map-append}
+use mathlib.Core.Bool.{Bool, true, false, cond}
 use lib.ListN.{length, take, getD}
 use lib.IntN.{ℤ, pos, negℤ, natAbs, _-ℤ_, +ℤ-idl}
 use mir.Syntax.{w32, w64}
@@ -16,9 +17,10 @@ use Rattle.weighting.proofs.Worths.{combineAll-snoc}
 use Rattle.pattern.specs.declared.Sign.{Sign}
 use Rattle.pattern.specs.declared.Sign.the-variants.{Less, AtMost, More, AtLeast}
 use Rattle.pattern.specs.declared.Test.{Test}
-use Rattle.pattern.specs.Distance.{Sample, distanceFrom, distanceOf, distanceIn}
+use Rattle.pattern.specs.Distance.{Sample, distanceFrom, distanceInside, distanceOf, distanceIn}
 use Rattle.pattern.proofs.ListLaws.{take-more}
 use Rattle.integers.proofs.Linear.{abs-is, mag-is, sub-is}
+use Rattle.integers.proofs.Ranges.{abs-min}
 use Rattle.integers.proofs.Casts.{widen-back, sub-fits}
 use Rattle.integers.proofs.Sums.{sub-turn}
 
@@ -47,15 +49,23 @@ module _ (v b : ℤ) (p : SFits w32 v) (q : SFits w32 b) where
 sub-size : (a b : ℤ) → SFits w32 a → SFits w32 b → natAbs (a -ℤ b) < 2 ^ 32
 sub-size a b p q = omega (arith, p .sfits, q .sfits, mag-is a, mag-is b, sub-is a b, abs-is (a -ℤ b))
 
--- whatever i32 the value and the bound are
-pub distance-size : (t : Test) (v : ℤ) → SFits w32 v → SFits w32 (t .bound) → natAbs (distanceOf t v) < 2 ^ 32
-distance-size t v p q = by (t .sign)
+-- a band's distance is no larger than both differences
+pub inside-size : (l h v : ℤ) → natAbs (distanceInside l h v) ≤ max (natAbs (v -ℤ l)) (natAbs (h -ℤ v))
+inside-size l h v = abs-min (v -ℤ l) (h -ℤ v)
+
+-- whatever i32 the value and the bounds are
+pub distance-size : (t : Test) (v : ℤ) → SFits w32 v → SFits w32 (t .bound) → SFits w32 (t .high) → natAbs (distanceOf t v) < 2 ^ 32
+distance-size t v p q r = either (t .band)
   where
     by : (s : Sign) → natAbs (distanceFrom s (t .bound) v) < 2 ^ 32
     by Less = omega (arith, sub-size (t .bound) v q p, sub-size v (t .bound) p q)
     by AtMost = omega (arith, sub-size (t .bound) v q p, sub-size v (t .bound) p q)
     by More = omega (arith, sub-size (t .bound) v q p, sub-size v (t .bound) p q)
     by AtLeast = omega (arith, sub-size (t .bound) v q p, sub-size v (t .bound) p q)
+
+    either : (b : Bool) → natAbs (cond b (distanceInside (t .bound) (t .high) v) (distanceFrom (t .sign) (t .bound) v)) < 2 ^ 32
+    either true = omega (arith, inside-size (t .bound) (t .high) v, sub-size v (t .bound) p q, sub-size (t .high) v r p)
+    either false = by (t .sign)
 
 -- ---- a place's worth, test by test
 

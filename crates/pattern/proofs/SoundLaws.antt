@@ -7,10 +7,13 @@ use native.Mathlib.Omega.{arith}
 use borrow.Author.Tests.{eqb-true, leb-true, ltb-true}
 use lib.Dec.{eqb, leb, ltb}
 use lib.ListN.{length, take, drop}
+use lib.IntN.{ℤ, natAbs}
+use lib.Signed.{leZ}
+use Rattle.pattern.specs.declared.Test.{Test}
 use Rattle.pattern.specs.declared.Edge.{Edge}
 use Rattle.pattern.specs.declared.Pattern.{Pattern}
 use Rattle.pattern.specs.Slots.{all, slots, anything}
-use Rattle.pattern.specs.Sound.{guardInRange, guardKnown, guardUnused, placeSound, placeUnused, edgeSound, edgeUnused, headerInRange, soundOf}
+use Rattle.pattern.specs.Sound.{boundInRange, bandInRange, unsaidZero, testInRange, testKnown, testSound, guardInRange, guardKnown, guardUnused, placeSound, placeUnused, edgeSound, edgeUnused, headerInRange, soundOf}
 
 pub both : (a b : Bool) → a && b ≡ true → (a ≡ true) × (b ≡ true)
 both true b e = (refl, e)
@@ -82,3 +85,29 @@ edge-parts clocks places e h =
     let b = both _ _ (a .0) in
     let c = both _ _ (b .0) in
     record { fromPlace = ltb-true _ _ (c .0); toPlace = ltb-true _ _ (c .1); guards = slotted (b .1); resets = slotted (a .1) }
+
+-- the parts of a band in range
+pub record BandParts (l h : ℤ) : Type 0 where
+  pub low : natAbs l ≤ 1_000_000
+  pub high : natAbs h ≤ 1_000_000
+  pub ordered : leZ l h ≡ true
+
+pub band-parts : (l h : ℤ) → bandInRange l h ≡ true → BandParts l h
+unfolding bandInRange boundInRange
+band-parts l h e =
+    let a = both _ _ e in
+    let b = both _ _ (a .0) in
+    record { low = leb-true _ _ (b .0); high = leb-true _ _ (b .1); ordered = a .1 }
+
+-- the parts of a test in use
+pub record TestParts (channels : ℕ) (t : Test) : Type 0 where
+  pub inRange : testInRange t ≡ true
+  pub known : testKnown channels t ≡ true
+  pub rest : unsaidZero t ≡ true
+
+pub test-parts : (channels : ℕ) (t : Test) → testSound channels t ≡ true → TestParts channels t
+unfolding testSound
+test-parts channels t e =
+    let a = both _ _ e in
+    let b = both _ _ (a .0) in
+    record { inRange = b .0; known = b .1; rest = a .1 }

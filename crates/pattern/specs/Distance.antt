@@ -1,11 +1,13 @@
--- Distances and the worth of a sample in a place (document 01, 'Record and run').
+-- Distances and the worth of a sample in a place (document 01, 'Record and run'; document 02, R-1).
 use Prim.Native.Nat.{ℕ, _^_, _≤_, _<_}
 use mathlib.Core.Path.{_≡_}
-use mathlib.Core.List.{List, map, List·Memᴰ}
+use mathlib.Core.List.{List, _∷_, _++_, map, List·Memᴰ}
+use mathlib.Core.Bool.{true, cond, _&&_}
 use lib.Dec.{T}
 use lib.ListN.{getD}
 use lib.Signed.{leZ}
 use lib.IntN.{ℤ, pos, natAbs, _-ℤ_}
+use Rattle.integers.specs.Least.{minZ}
 use Rattle.weighting.specs.declared.Weighing.{Weighing}
 use Rattle.weighting.specs.declared.Weighing.the-variants.{Margin}
 use Rattle.weighting.specs.Weighting.{combineAll}
@@ -14,6 +16,7 @@ use Rattle.pattern.specs.declared.Sign.{Sign}
 use Rattle.pattern.specs.declared.Sign.the-variants.{Less, AtMost, More, AtLeast}
 use Rattle.pattern.specs.declared.Test.{Test}
 use Rattle.pattern.specs.declared.Place.{Place}
+use Rattle.pattern.specs.Sound.{sideOn, bandOn, testInRange}
 use Rattle.pattern.specs.InUse.{testsOf}
 
 -- A sample is one value for each channel.
@@ -32,8 +35,12 @@ distanceFrom AtMost b v = b -ℤ v
 distanceFrom More b v = v -ℤ b
 distanceFrom AtLeast b v = v -ℤ b
 
+-- A band's is the smaller of value - low and high - value, whatever the weighing (R-1).
+abbrev pub distanceInside : (low high value : ℤ) → ℤ
+distanceInside l h v = minZ (v -ℤ l) (h -ℤ v)
+
 abbrev pub distanceOf : Test → (value : ℤ) → ℤ
-distanceOf t v = distanceFrom (t .sign) (t .bound) v
+distanceOf t v = cond (t .band) (distanceInside (t .bound) (t .high) v) (distanceFrom (t .sign) (t .bound) v)
 
 -- A test's distance in a sample.
 abbrev pub distanceIn : Sample → Test → ℤ
@@ -52,7 +59,7 @@ placeWorth w l s = combineAll (weightingOf w) (distancesOf l s)
 -- 2,000,001 stands above every distance.
 abbrev pub DistancesInRange : Type 0
 DistancesInRange =
-    (t : Test) (v : ℤ) → natAbs (t .bound) ≤ 1_000_000 → natAbs v ≤ 1_000_000 → natAbs (distanceOf t v) ≤ 2_000_000
+    (t : Test) (v : ℤ) → testInRange t ≡ true → natAbs v ≤ 1_000_000 → natAbs (distanceOf t v) ≤ 2_000_000
 
 -- Theorem: then a place with tests is worth its least distance in margin; the 2,000,001 that the combination starts from
 -- does not show.
@@ -62,7 +69,19 @@ MarginIsLeast =
     → (d : ℤ) → List·Memᴰ d (distancesOf l s)
     → List·Memᴰ (placeWorth Margin l s) (distancesOf l s) × T (leZ (placeWorth Margin l s) d)
 
--- r is the test's distance in the sample. Whatever i32 the value and the bound are, it is below 2^32 in size, and may be
+-- Theorem: a band's distance is at least 0 exactly if the value lies in the band.
+abbrev pub BandSign : Type 0
+BandSign = (c : ℕ) (low high v : ℤ) → leZ (pos 0) (distanceOf (bandOn c low high) v) ≡ leZ low v && leZ v high
+
+-- Theorem: in margin a band is worth what `>=` its low and `<=` its high are worth in its place, among any tests.
+abbrev pub BandIsTwoTests : Type 0
+BandIsTwoTests =
+    (l m : Place) (before after : List Test) (c : ℕ) (low high : ℤ)
+    → testsOf l ≡ before ++ bandOn c low high ∷ after
+    → testsOf m ≡ before ++ sideOn AtLeast c low ∷ sideOn AtMost c high ∷ after
+    → (s : Sample) → placeWorth Margin l s ≡ placeWorth Margin m s
+
+-- r is the test's distance in the sample. Whatever i32 the value and the bounds are, it is below 2^32 in size, and may be
 -- one less than that.
 pub record Measured (t : Test) (s : Sample) (r : ℤ) : Type 0 where
   pub is : r ≡ distanceIn s t

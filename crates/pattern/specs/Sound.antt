@@ -1,11 +1,12 @@
--- When a pattern value is sound (document 01, 'Pattern text'): every count, range and index is one that a text can
+-- When a pattern value is sound (document 01, 'Pattern text'; document 02, R-1): every count, range and index is one that a text can
 -- have, and what a text does not say is zeros. That it is sound exactly if some text reads as it is a theorem of the
 -- crate pattern_text.
 use Prim.Native.Nat.{ℕ}
-use mathlib.Core.Bool.{Bool, true, false, not, _&&_}
+use mathlib.Core.Bool.{Bool, true, false, not, cond, _&&_}
 use lib.Dec.{eqb, leb, ltb}
 use lib.ListN.{replicate}
 use lib.IntN.{ℤ, pos, negsuc, natAbs}
+use lib.Signed.{leZ}
 use Rattle.weighting.specs.declared.Weighing.the-variants.{Margin}
 use Rattle.pattern.specs.declared.Sign.{Sign}
 use Rattle.pattern.specs.declared.Sign.the-variants.{Less, AtMost, More, AtLeast}
@@ -18,10 +19,20 @@ use Rattle.pattern.specs.declared.Edge.{Edge}
 use Rattle.pattern.specs.declared.Pattern.{Pattern}
 use Rattle.pattern.specs.Slots.{anything, within, slots}
 
+-- ---- the two kinds of test, by what a text says of them
+
+-- a sign, a channel and a bound; no `high`
+abbrev pub sideOn : Sign → (channel : ℕ) → (bound : ℤ) → Test
+sideOn s c b = record { sign = s; channel = c; bound = b; band = false; high = pos 0 }
+
+-- R-1, a band: a channel, a low, which stands as `bound`, and a high; no sign
+abbrev pub bandOn : (channel : ℕ) → (low high : ℤ) → Test
+bandOn c l h = record { sign = Less; channel = c; bound = l; band = true; high = h }
+
 -- ---- "Its unused slots are zeros, with sign `<` and kind plain."
 
 abbrev pub noTest : Test
-noTest = record { sign = Less; channel = 0; bound = pos 0 }
+noTest = sideOn Less 0 (pos 0)
 
 abbrev pub noPlace : Place
 noPlace = record { kind = Plain; tests = replicate 4 noTest; count = 0 }
@@ -63,7 +74,11 @@ isNull (pos n) = eqb n 0
 isNull (negsuc n) = false
 
 unfoldable pub testUnused : Test → Bool
-testUnused t = isLess (t .sign) && eqb (t .channel) 0 && isNull (t .bound)
+testUnused t = isLess (t .sign) && eqb (t .channel) 0 && isNull (t .bound) && not (t .band) && isNull (t .high)
+
+-- So is what a test in use leaves unsaid: a band its sign, any other test its `high`.
+unfoldable pub unsaidZero : Test → Bool
+unsaidZero t = cond (t .band) (isLess (t .sign)) (isNull (t .high))
 
 unfoldable pub guardUnused : Guard → Bool
 guardUnused g = isLess (g .sign) && eqb (g .clock) 0 && eqb (g .bound) 0
@@ -79,8 +94,15 @@ edgeUnused e =
 -- ---- ranges, and indices that the pattern has
 
 -- "a bound from -1,000,000 to 1,000,000"
+unfoldable pub boundInRange : ℤ → Bool
+boundInRange b = leb (natAbs b) 1_000_000
+
+-- R-1: both ends of a band are in a bound's range, and the low is not above the high
+unfoldable pub bandInRange : (low high : ℤ) → Bool
+bandInRange l h = boundInRange l && boundInRange h && leZ l h
+
 unfoldable pub testInRange : Test → Bool
-testInRange t = leb (natAbs (t .bound)) 1_000_000
+testInRange t = cond (t .band) (bandInRange (t .bound) (t .high)) (boundInRange (t .bound))
 
 -- Channels count from 0.
 unfoldable pub testKnown : (channels : ℕ) → Test → Bool
@@ -101,9 +123,12 @@ headerInRange channels clocks low high =
 
 -- ---- the pattern
 
--- "with 0 to 4 tests"
+unfoldable pub testSound : (channels : ℕ) → Test → Bool
+testSound channels t = testInRange t && testKnown channels t && unsaidZero t
+
+-- "with 0 to 4 tests"; a band is one of them
 unfoldable pub placeSound : (channels : ℕ) → Place → Bool
-placeSound channels l = slots (λ t. testInRange t && testKnown channels t) testUnused 4 (l .count) (l .tests)
+placeSound channels l = slots (testSound channels) testUnused 4 (l .count) (l .tests)
 
 -- "from, to, 0 to 4 guards, then resets": both ends among the places, and a reset flag only for a clock of the pattern.
 -- The flags stand in the clocks' order, so resets that rise need no rule of their own.

@@ -5,21 +5,42 @@ use super::Test;
 use super::clocks::in_use;
 use weighting::Weighing;
 use weighting::combine;
+use weighting::lesser;
 use weighting::unit;
 ghost use mathlib.Core.Path.{_≡_};
-ghost use Rattle.pattern.specs.Distance.{readingOf, distanceOf, placeWorth, Measured};
+ghost use Rattle.pattern.specs.Distance.{readingOf, distanceFrom, distanceInside, distanceOf, placeWorth, Measured};
 
 // i32 values and bounds become i64 distances: subtracted, and negated for `<` and `<=`.
-pub fn distance(t: Test, value: i32) -> i64
-    ensures { λ r. ⌜ r ≡ distanceOf t value ⌝ }
+fn side_distance(s: Sign, bound: i32, value: i32) -> i64
+    ensures { λ r. ⌜ r ≡ distanceFrom s bound value ⌝ }
 {
-    let s = t.sign;
-    let above = value as i64 - t.bound as i64;
+    let above = value as i64 - bound as i64;
     match s {
         Sign::Less => -above,
         Sign::AtMost => -above,
         Sign::More => above,
         Sign::AtLeast => above,
+    }
+}
+
+// The smaller of value - low and high - value.
+fn band_distance(low: i32, high: i32, value: i32) -> i64
+    ensures { λ r. ⌜ r ≡ distanceInside low high value ⌝ }
+{
+    let above = value as i64 - low as i64;
+    let below = high as i64 - value as i64;
+    lesser(above, below)
+}
+
+// A test's distance.
+pub fn distance(t: Test, value: i32) -> i64
+    ensures { λ r. ⌜ r ≡ distanceOf t value ⌝ }
+{
+    if t.band {
+        band_distance(t.bound, t.high, value)
+    } else {
+        let s = t.sign;
+        side_distance(s, t.bound, value)
     }
 }
 

@@ -1,7 +1,7 @@
 // A pattern by value, as document 01 names its parts. Counts say how many slots of an array are in use.
 pub mod clocks;
 pub mod distance;
-mod slots;
+pub mod slots;
 
 use weighting::Weighing;
 ghost use mathlib.Core.Path.{_≡_};
@@ -20,11 +20,14 @@ pub enum Sign {
     AtLeast,
 }
 
-// A test is a sign of four kinds together with its channel and bound.
+// A test is a sign of four kinds together with its channel and bound; or it is a band, whose low is `bound`. A band says no
+// sign and has `<` there; any other test says no `high` and has 0 there.
 pub struct Test {
     pub sign: Sign,
     pub channel: u8,
     pub bound: i32,
+    pub band: bool,
+    pub high: i32,
 }
 
 // Both is start and end.

@@ -10,7 +10,8 @@ ghost use mathlib.Core.Path.{_≡_};
 ghost use mathlib.Core.Bool.{not, _&&_, cond};
 ghost use Rattle.pattern.specs.Slots.{slots, anything};
 ghost use Rattle.pattern.specs.Sound.{isLess, isPlain, testUnused, guardUnused, placeUnused, edgeUnused};
-ghost use Rattle.pattern.specs.Sound.{testInRange, testKnown, guardInRange, guardKnown, placeSound, edgeSound};
+ghost use Rattle.pattern.specs.Sound.{boundInRange, bandInRange, unsaidZero, testInRange, testSound};
+ghost use Rattle.pattern.specs.Sound.{guardInRange, guardKnown, placeSound, edgeSound};
 
 // The one or the other, by a test.
 pub fn pick(test: bool, a: bool, b: bool) -> bool
@@ -45,7 +46,7 @@ pub fn test_unused(t: Test) -> bool
     ensures { λ r. ⌜ r ≡ testUnused t ⌝ }
 {
     let s = t.sign;
-    is_less(s) & (t.channel == 0) & (t.bound == 0)
+    is_less(s) & (t.channel == 0) & (t.bound == 0) & !t.band & (t.high == 0)
 }
 
 pub fn guard_unused(g: Guard) -> bool
@@ -55,11 +56,44 @@ pub fn guard_unused(g: Guard) -> bool
     is_less(s) & (g.clock == 0) & (g.bound == 0)
 }
 
-// "a bound from -1,000,000 to 1,000,000", and a channel of the pattern's
-pub fn test_sound(t: Test, channels: u8) -> bool
-    ensures { λ r. ⌜ r ≡ testInRange t && testKnown channels t ⌝ }
+// "a bound from -1,000,000 to 1,000,000"
+fn bound_in_range(b: i32) -> bool
+    ensures { λ r. ⌜ r ≡ boundInRange b ⌝ }
 {
-    (-1000000 <= t.bound) & (t.bound <= 1000000) & (t.channel < channels)
+    (-1000000 <= b) & (b <= 1000000)
+}
+
+// Both ends in a bound's range, the low not above the high.
+fn band_in_range(low: i32, high: i32) -> bool
+    ensures { λ r. ⌜ r ≡ bandInRange low high ⌝ }
+{
+    bound_in_range(low) & bound_in_range(high) & (low <= high)
+}
+
+// The numbers of a test.
+pub fn test_in_range(t: Test) -> bool
+    ensures { λ r. ⌜ r ≡ testInRange t ⌝ }
+{
+    if t.band {
+        band_in_range(t.bound, t.high)
+    } else {
+        bound_in_range(t.bound)
+    }
+}
+
+// What a test in use leaves unsaid is zeros.
+fn unsaid_zero(t: Test) -> bool
+    ensures { λ r. ⌜ r ≡ unsaidZero t ⌝ }
+{
+    let s = t.sign;
+    pick(t.band, is_less(s), t.high == 0)
+}
+
+// In range, of a channel of the pattern's, and silent on the rest.
+pub fn test_sound(t: Test, channels: u8) -> bool
+    ensures { λ r. ⌜ r ≡ testSound channels t ⌝ }
+{
+    test_in_range(t) & (t.channel < channels) & unsaid_zero(t)
 }
 
 // "a bound 0 to 1,000", and a clock of the pattern's

@@ -84,6 +84,8 @@ fn no_place() -> Place
         sign: Sign::Less,
         channel: 0,
         bound: 0,
+        band: false,
+        high: 0,
     };
     Place {
         kind: Kind::Plain,

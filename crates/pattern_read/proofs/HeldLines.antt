@@ -3,27 +3,29 @@ use Prim.Native.Nat.{ℕ, zero, suc, _-_, _≤_, min}
 use native.Mathlib.Omega.{arith}
 use native.Mathlib.Numerals.{add-one}
 use mathlib.Core.Path.{_≡_, refl, sym, ap, ap₂, _∙_}
-use mathlib.Core.List.{List, [], _∷_, map}
+use mathlib.Core.List.{List, [], _∷_, map, map-map, map-id}
 use mathlib.Core.Bool.{Bool, true, false, _&&_, _||_, and-true}
 use lib.Dec.{leb, ltb}
-use lib.ListN.{length, take, set}
+use lib.ListN.{length, take, set, length-map}
 use lib.Seq.{take-all}
-use lib.IntN.{ℤ, pos, negsuc, natAbs}
+use lib.IntN.{pos, natAbs}
 use borrow.Author.Tests.{leb-true, leb-false, le-leb, lt-leb, ltb-true, lt-ltb, le-ltb, ne-eqb}
-use Rattle.pattern.specs.declared.Test.{Test}
+use Rattle.pattern.specs.declared.Sign.the-variants.{Less}
 use Rattle.pattern.specs.declared.Guard.{Guard}
 use Rattle.pattern.specs.Slots.{all, within}
-use Rattle.pattern.specs.Sound.{noTest, noGuard, testInRange, testKnown, guardInRange, guardKnown, headerInRange}
+use Rattle.pattern.specs.Sound.{noTest, noGuard, boundInRange, testInRange, testKnown, guardInRange, guardKnown, headerInRange}
+use Rattle.pattern.proofs.SoundLaws.{band-parts}
 use Rattle.pattern_text.specs.Line as line
-use Rattle.pattern_text.specs.Fault.{rising}
+use Rattle.pattern_text.specs.Line.{testOf}
+use Rattle.pattern_text.specs.Fault.{rising, lineInRange, lineKnown}
 use Rattle.pattern_text.specs.Text.{pad, among, flags, placeOf}
 use Rattle.pattern_text.proofs.Tools.{both, by-test}
-use Rattle.text_scan.specs.Scan.{cap, held}
+use Rattle.text_scan.specs.Scan.{cap}
 use Rattle.line_lists.specs.declared.Resets.{Resets}
 use Rattle.line_parts.specs.Parts.{heldTest, heldGuard}
 use Rattle.line_lists.specs.Lists.{gatheredTests, gatheredGuards}
 use Rattle.line_lists.specs.ResetList.{noResets, addReset, added}
-use Rattle.line_lists.proofs.Held.{min-leb, min-ltb}
+use Rattle.line_lists.proofs.Held.{min-leb, min-ltb, held-is}
 use Rattle.pattern_lines.specs.Turn.{placeFrom}
 
 -- ---- the header
@@ -56,22 +58,22 @@ five n = by-test (leb n 4)
 pub few-held : (n : ℕ) → ltb (min 5 n) 5 ≡ leb n 4
 few-held = five
 
-map-same : {A : Type 0} (f : A → A) (p q : A → Bool) → ((a : A) → p a ≡ true → q a ≡ true → f a ≡ a) → (xs : List A) → all p xs ≡ true → all q xs ≡ true → map f xs ≡ xs
-map-same f p q h [] e g = refl
-map-same f p q h (x ∷ xs) e g =
+map-same : {A B : Type 0} (f g : A → B) (p q : A → Bool) → ((a : A) → p a ≡ true → q a ≡ true → f a ≡ g a) → (xs : List A) → all p xs ≡ true → all q xs ≡ true → map f xs ≡ map g xs
+map-same f g p q h [] e k = refl
+map-same f g p q h (x ∷ xs) e k =
     let a = both (p x) (all p xs) e in
-    let b = both (q x) (all q xs) g in
-    ap₂ _∷_ (h x (a .0) (b .0)) (map-same f p q h xs (a .1) (b .1))
+    let b = both (q x) (all q xs) k in
+    ap₂ _∷_ (h x (a .0) (b .0)) (map-same f g p q h xs (a .1) (b .1))
 
-held-same : (z : ℤ) → leb (natAbs z) 1_000_000 ≡ true → held z ≡ z
-held-same (pos n) h = ap pos (omega (arith, leb-true n 1_000_000 h))
-held-same (negsuc n) h = ap negsuc (omega (arith, leb-true (suc n) 1_000_000 h))
-
-test-same : (channels : ℕ) → channels ≤ 255 → (x : Test) → testInRange x ≡ true → testKnown channels x ≡ true → heldTest x ≡ x
-unfolding testInRange testKnown
-test-same channels few x r k =
-    let c : min 255 (x .channel) ≡ x .channel = omega (arith, ltb-true (x .channel) channels k) in
-    λ i. record { sign = x .sign; channel = c i; bound = held-same (x .bound) r i }
+line-same : (channels : ℕ) → channels ≤ 255 → (x : line.TestLine) → lineInRange x ≡ true → lineKnown channels x ≡ true → heldTest (testOf x) ≡ testOf x
+unfolding testInRange boundInRange testKnown
+line-same channels few (line.side s c b) r k =
+    let n : min 255 c ≡ c = omega (arith, ltb-true c channels k) in
+    λ i. record { sign = s; channel = n i; bound = held-is b r i; band = false; high = pos 0 }
+line-same channels few (line.inside c l h) r k =
+    let n : min 255 c ≡ c = omega (arith, ltb-true c channels k) in
+    let p = band-parts l h r in
+    λ i. record { sign = Less; channel = n i; bound = held-is l (le-leb (natAbs l) 1_000_000 (p .low)) i; band = true; high = held-is h (le-leb (natAbs h) 1_000_000 (p .high)) i }
 
 guard-same : (clocks : ℕ) → clocks ≤ 255 → (x : Guard) → guardInRange x ≡ true → guardKnown clocks x ≡ true → heldGuard x ≡ x
 unfolding guardInRange guardKnown
@@ -80,17 +82,23 @@ guard-same clocks few x r k =
     let b : min 65_535 (x .bound) ≡ x .bound = omega (arith, leb-true (x .bound) 1_000 r) in
     λ i. record { sign = x .sign; clock = c i; bound = b i }
 
+pub all-mapped : {A B : Type 0} (p : B → Bool) (f : A → B) (xs : List A) → all p (map f xs) ≡ all (λ x. p (f x)) xs
+all-mapped p f [] = refl
+all-mapped p f (x ∷ xs) = ap (λ (b : Bool). p (f x) && b) (all-mapped p f xs)
+
 -- a place's line without a fault
-pub place-held : (channels : ℕ) → channels ≤ 255 → (l : line.PlaceLine) → length (l .tests) ≤ 4 → all testInRange (l .tests) ≡ true → all (testKnown channels) (l .tests) ≡ true → placeFrom (l .kind) (gatheredTests channels (l .tests)) ≡ placeOf l
+pub place-held : (channels : ℕ) → channels ≤ 255 → (l : line.PlaceLine) → length (l .tests) ≤ 4 → all lineInRange (l .tests) ≡ true → all (lineKnown channels) (l .tests) ≡ true → placeFrom (l .kind) (gatheredTests channels (map testOf (l .tests))) ≡ placeOf l
 unfolding placeFrom gatheredTests placeOf
 place-held channels few l n r k =
-    let same = map-same heldTest testInRange (testKnown channels) (test-same channels few) (l .tests) r k in
-    let c : min 5 (length (l .tests)) ≡ length (l .tests) = omega arith in
-    λ i. record { kind = l .kind; tests = pad 4 noTest ((ap (take 4) same ∙ take-all 4 (l .tests) n) i); count = c i }
+    let ts = map testOf (l .tests) in
+    let m = length-map (l .tests) testOf in
+    let same = map-map heldTest testOf (l .tests) ∙ map-same (λ x. heldTest (testOf x)) testOf lineInRange (lineKnown channels) (line-same channels few) (l .tests) r k in
+    let c : min 5 (length ts) ≡ length (l .tests) = omega arith in
+    λ i. record { kind = l .kind; tests = pad 4 noTest ((ap (take 4) same ∙ take-all 4 ts (omega arith)) i); count = c i }
 
 pub guards-held : (clocks : ℕ) → clocks ≤ 255 → (gs : List Guard) → length gs ≤ 4 → all guardInRange gs ≡ true → all (guardKnown clocks) gs ≡ true → gatheredGuards clocks gs .guards ≡ pad 4 noGuard gs
 unfolding gatheredGuards
-guards-held clocks few gs n r k = ap (pad 4 noGuard) (ap (take 4) (map-same heldGuard guardInRange (guardKnown clocks) (guard-same clocks few) gs r k) ∙ take-all 4 gs n)
+guards-held clocks few gs n r k = ap (pad 4 noGuard) (ap (take 4) (map-same heldGuard (λ g. g) guardInRange (guardKnown clocks) (guard-same clocks few) gs r k ∙ map-id gs) ∙ take-all 4 gs n)
 
 -- ---- resets
 

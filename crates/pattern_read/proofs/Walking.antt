@@ -2,7 +2,7 @@
 use Prim.Native.Nat.{ℕ, suc, _+_, _-_, _≤_, _<_}
 use native.Mathlib.Omega.{arith}
 use mathlib.Core.Path.{_≡_, refl, sym, ap, _∙_}
-use mathlib.Core.List.{List, [], _∷_, _++_}
+use mathlib.Core.List.{List, [], _∷_, _++_, map}
 use mathlib.Core.Option.{Option, none, some}
 use mathlib.Core.Bool.{Bool, true, false, cond}
 use lib.Dec.{ltb}
@@ -14,7 +14,7 @@ use Rattle.pattern.specs.declared.Pattern.{Pattern}
 use Rattle.pattern.specs.Sound.{headerInRange}
 use Rattle.pattern_text.specs.Bytes.{Bytes, bytes, Reading, got, broken}
 use Rattle.pattern_text.specs.Form.{_◂_}
-use Rattle.pattern_text.specs.Line.{Header, PlaceLine, EdgeLine, Raw, header, place, edge, renderLine, headerLine, placeLine, edgeLine}
+use Rattle.pattern_text.specs.Line.{testOf, Header, PlaceLine, EdgeLine, Raw, header, place, edge, renderLine, headerLine, placeLine, edgeLine}
 use Rattle.pattern_text.specs.Fault.{Doc, judged, headerFault, placeFault, edgeFault, next, stop, unless, isEmpty, withPlace, withEdge, stepOf}
 use Rattle.pattern_text.specs.Text.{Answer, accepted, refused, linesOf, patternOf, finish, onward, readLines}
 use Rattle.pattern_text.proofs.Tools.{both, by-test}
@@ -161,13 +161,13 @@ module _ (t : Bytes) (a : Answer) (at : ℕ) (inside : at < length t) where
 
     -- ---- a place, or an edge
 
-    place-read : isEmpty (d .edges) ≡ true → (l : PlaceLine) (r : Bytes) → (placeLine ◂ "\n") .read (drop at t) ≡ got l r → Onward t a at (putLine (patternOf d) (placeJudged (length t) (length (d .places)) (record { found = true; kind = l .kind; tests = gatheredTests (d .head .channels) (l .tests); next = endOf t r })))
+    place-read : isEmpty (d .edges) ≡ true → (l : PlaceLine) (r : Bytes) → (placeLine ◂ "\n") .read (drop at t) ≡ got l r → Onward t a at (putLine (patternOf d) (placeJudged (length t) (length (d .places)) (record { found = true; kind = l .kind; tests = gatheredTests (d .head .channels) (map testOf (l .tests)); next = endOf t r })))
     unfolding placeJudged renderLine stepOf patternOf putLine
     place-read h l r p =
         let sound = ended-sound place-exact (drop at t) l r p in
         let s : stepOf (some d) (place l) ≡ unless (placeFault d l) (withPlace d l) = rw h refl in
         rw (place-judged d fits l)
-        (ruled-on (placeFault d l) (some d) (place l) (withPlace d l) (patternOf d) (ofPlace (endOf t r) (placeFrom (l .kind) (gatheredTests (d .head .channels) (l .tests)))) r fits s
+        (ruled-on (placeFault d l) (some d) (place l) (withPlace d l) (patternOf d) (ofPlace (endOf t r) (placeFrom (l .kind) (gatheredTests (d .head .channels) (map testOf (l .tests))))) r fits s
         (left ∙ ap (λ (x : Bytes). readLines (some d) (linesOf x)) sound ∙ line-there (some d) (place l) r ∙ ap (λ x. onward x (λ c. readLines (some c) (linesOf r))) s)
         (λ z. place-filled d fits l z) (rw h refl) refl
         (rest-at t at (placeLine .write l ++ bytes "\n") r sound)

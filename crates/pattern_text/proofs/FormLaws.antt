@@ -3,6 +3,7 @@ use Prim.Native.Nat.{ℕ, zero, suc, _≤_, _<_}
 use mathlib.Core.Path.{_≡_, refl, sym, ap, ap₂, _∙_}
 use Prim.Native.String.{String}
 use mathlib.Core.List.{List, [], _∷_, _++_, append-assoc}
+use mathlib.Core.Logic.{_⊎_, inl, inr}
 use mathlib.Core.Bool.{true, false}
 use native.Mathlib.Omega.{arith}
 use lib.Dec.{eqb}
@@ -12,7 +13,7 @@ use borrow.Author.Tests.{eqb-true, eq-eqb, ne-eqb}
 use Rattle.pattern.specs.Slots.{all}
 use Rattle.pattern_text.specs.Bytes.{Bytes, noFeed, Flat, bytes, Reading, got, broken}
 use Rattle.pattern_text.specs.Numeral.{decimal, isDigit, startsDigit, numeralOf}
-use Rattle.pattern_text.specs.Form.{Form, andThen, giving, orElse, strip, _▸_, _◂_, _⨾_, firstOf, oneOf, writeMany, goOn, readMany, many, mapped, number, writeℤ, minus, integer}
+use Rattle.pattern_text.specs.Form.{Form, andThen, giving, orElse, strip, _▸_, _◂_, _⨾_, firstOf, oneOf, writeEither, either, writeMany, goOn, readMany, many, mapped, number, writeℤ, minus, integer}
 use Rattle.pattern_text.proofs.Tools.{never, both, all-append, by-test}
 use Rattle.pattern_text.proofs.NumeralLaws.{digits-of, is-digit, numeral, no-numeral}
 
@@ -122,6 +123,26 @@ first-sound word (c ∷ l) b a r e = or-inv (giving (λ _. c) (strip (bytes (wor
 pub oneOf-exact : {A : Type 0} (word : A → String) (l : List A) → ((a : A) (r : Bytes) → firstOf word l (bytes (word a) ++ r) ≡ got a r) → ((a : A) → Flat (bytes (word a))) → Exact (oneOf word l) Any
 unfolding oneOf
 oneOf-exact word l k flat = record { sound = first-sound word l; complete = λ a r _. k a r; flat = flat }
+
+-- of two forms, the first of which reads nothing that the other wrote
+pub either-exact : {A B : Type 0} {f : Form A} {g : Form B} {F : Bytes → Type 0} → Exact f F → Exact g F
+    → ((b : B) (r : Bytes) → f .read (g .write b ++ r) ≡ broken) → Exact (either f g) F
+unfolding either
+either-exact {A = A} {B = B} {f = f} {g = g} {F = F} x y apart = record {
+  sound = λ b a r e. or-inv (giving inl (f .read b)) (giving inr (g .read b)) a r e
+      (λ d. giving-inv inl (f .read b) a r d (λ c t v. x .sound b c r t ∙ rw (← v)))
+      (λ d. giving-inv inr (g .read b) a r d (λ c t v. y .sound b c r t ∙ rw (← v)));
+  complete = complete;
+  flat = flat;
+}
+  where
+    complete : (a : A ⊎ B) (r : Bytes) → F r → orElse (giving inl (f .read (writeEither f g a ++ r))) (giving inr (g .read (writeEither f g a ++ r))) ≡ got a r
+    complete (inl a) r h = rw (x .complete a r h)
+    complete (inr b) r h = rw (apart b r, y .complete b r h)
+
+    flat : (a : A ⊎ B) → Flat (writeEither f g a)
+    flat (inl a) = x .flat a
+    flat (inr b) = y .flat b
 
 module _ {A : Type 0} {f : Form A} {F : Bytes → Type 0} (x : Faithful f F) where
   ended : (b : Bytes) (l : List A) (r : Bytes) → got [] b ≡ got l r → b ≡ writeMany (f .write) l ++ r

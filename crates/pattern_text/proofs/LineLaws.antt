@@ -1,23 +1,23 @@
 -- Lines are read as they are written.
 use Prim.Native.Nat.{ℕ, _<_}
 use mathlib.Core.Path.{_≡_, refl, _∙_}
-use mathlib.Core.Logic.{_↔_}
+use mathlib.Core.Logic.{_↔_, _⊎_, inl, inr}
 use mathlib.Core.List.{List, [], _∷_, _++_, append-nil}
 use mathlib.Core.Option.{some}
 use native.Mathlib.Omega.{arith}
 use lib.ListN.{length}
+use lib.IntN.{ℤ}
 use Rattle.pattern.specs.declared.Sign.{Sign}
 use Rattle.pattern.specs.declared.Sign.the-variants.{Less, AtMost, More, AtLeast}
 use Rattle.pattern.specs.declared.Kind.{Kind}
 use Rattle.pattern.specs.declared.Kind.the-variants.{Start, Plain, End, Both}
 use Rattle.weighting.specs.declared.Weighing.{Weighing}
 use Rattle.weighting.specs.declared.Weighing.the-variants.{Margin, Sum}
-use Rattle.pattern.specs.declared.Test.{Test}
 use Rattle.pattern.specs.declared.Guard.{Guard}
 use Rattle.pattern_text.specs.Bytes.{Bytes, Flat, bytes, Reading, got, broken}
-use Rattle.pattern_text.specs.Form.{giving, orElse, strip, _▸_, _◂_, _⨾_, firstOf, oneOf, writeMany, many, mapped, number}
-use Rattle.pattern_text.specs.Line.{weighing, PlaceLine, kind, EdgeLine, resets, Raw, signWord, kindWord, weighingWord, sign, test, guard, bracket, writeResets, headerLine, placeLine, edgeLine, renderLine, readLine, whole, lineOf, header, place, edge}
-use Rattle.pattern_text.proofs.FormLaws.{Exact, Any, NoDigit, giving-inv, or-inv, ▸-exact, ◂-exact, ⨾-exact, mapped-exact, oneOf-exact, many-exact, number-exact, integer-exact}
+use Rattle.pattern_text.specs.Form.{giving, orElse, strip, _▸_, _◂_, _⨾_, firstOf, oneOf, either, writeMany, many, mapped, number}
+use Rattle.pattern_text.specs.Line.{weighing, PlaceLine, kind, EdgeLine, resets, Raw, TestLine, side, inside, signWord, kindWord, weighingWord, sign, sideTest, bandTest, testIn, partsOf, test, guard, bracket, writeResets, headerLine, placeLine, edgeLine, renderLine, readLine, whole, lineOf, header, place, edge}
+use Rattle.pattern_text.proofs.FormLaws.{Exact, Any, NoDigit, giving-inv, or-inv, ▸-exact, ◂-exact, ⨾-exact, mapped-exact, oneOf-exact, either-exact, many-exact, number-exact, integer-exact}
 
 -- ---- each is exact
 
@@ -65,9 +65,31 @@ weighing-exact = oneOf-exact weighingWord (Margin ∷ Sum ∷ []) go flat
     go Margin r = refl
     go Sum r = refl
 
+pub side-exact : Exact sideTest Any
+unfolding sideTest
+side-exact = ⨾-exact sign-exact (⨾-exact (◂-exact " " number-exact refl (λ r. refl)) (◂-exact ")" integer-exact refl (λ r. refl)) (λ b r h. tt)) (λ b r h. tt)
+
+band-exact : Exact bandTest Any
+unfolding bandTest
+band-exact = ⨾-exact (▸-exact " (in " refl (◂-exact " " number-exact refl (λ r. refl)))
+    (⨾-exact (◂-exact " " integer-exact refl (λ r. refl)) (◂-exact ")" integer-exact refl (λ r. refl)) (λ b r h. tt)) (λ b r h. tt)
+
+-- a band begins with no sign
+no-side : (b : ℕ × (ℤ × ℤ)) (r : Bytes) → sideTest .read (bandTest .write b ++ r) ≡ broken
+unfolding sideTest bandTest _▸_ _⨾_ sign oneOf firstOf strip signWord
+no-side b r = refl
+
+in-parts : (a : (Sign × (ℕ × ℤ)) ⊎ (ℕ × (ℤ × ℤ))) → partsOf (testIn a) ≡ a
+in-parts (inl a) = refl
+in-parts (inr b) = refl
+
+parts-in : (t : TestLine) → testIn (partsOf t) ≡ t
+parts-in (side s c b) = refl
+parts-in (inside c l h) = refl
+
 pub test-exact : Exact test Any
 unfolding test
-test-exact = mapped-exact _ _ (⨾-exact sign-exact (⨾-exact (◂-exact " " number-exact refl (λ r. refl)) (◂-exact ")" integer-exact refl (λ r. refl)) (λ b r h. tt)) (λ b r h. tt)) (λ t. refl) (λ t. refl)
+test-exact = mapped-exact testIn partsOf (either-exact side-exact band-exact no-side) in-parts parts-in
 
 pub guard-exact : Exact guard Any
 unfolding guard
@@ -113,16 +135,17 @@ header-exact =
     let n = ◂-exact " " number-exact refl (λ r. refl) in
     mapped-exact _ _ (⨾-exact (▸-exact "(pattern " refl weighing-exact) (⨾-exact n (⨾-exact n (⨾-exact n (◂-exact ")" number-exact refl (λ r. refl)) (λ b r h. tt)) (λ b r h. tt)) (λ b r h. tt)) (λ b r h. tt)) (λ h. refl) (λ h. refl)
 
-sign-long : (s : Sign) (b : Bytes) → 0 < length (bytes (signWord s) ++ b)
+pub sign-long : (s : Sign) (b : Bytes) → 0 < length (bytes (signWord s) ++ b)
 unfolding signWord
 sign-long Less b = omega arith
 sign-long AtMost b = omega arith
 sign-long More b = omega arith
 sign-long AtLeast b = omega arith
 
-pub test-long : (t : Test) → 0 < length (test .write t)
-unfolding test mapped _⨾_ sign oneOf
-test-long t = sign-long (t .sign) _
+pub test-long : (t : TestLine) → 0 < length (test .write t)
+unfolding test mapped either sideTest bandTest _▸_ _⨾_ sign oneOf
+test-long (side s c b) = sign-long s _
+test-long (inside c l h) = omega arith
 
 pub guard-long : (g : Guard) → 0 < length (guard .write g)
 unfolding guard mapped _⨾_ sign oneOf
@@ -130,7 +153,7 @@ guard-long g = sign-long (g .sign) _
 
 -- a bracket that closes is no test
 no-test : (r : Bytes) → test .read (bytes ")" ++ r) ≡ broken
-unfolding test mapped _⨾_ sign oneOf firstOf strip signWord
+unfolding test mapped either sideTest bandTest _▸_ _⨾_ sign oneOf firstOf strip signWord
 no-test r = refl
 
 pub place-exact : Exact placeLine Any

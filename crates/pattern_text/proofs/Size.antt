@@ -14,15 +14,15 @@ use Rattle.pattern.specs.declared.Kind.{Kind}
 use Rattle.pattern.specs.declared.Kind.the-variants.{Start, Plain, End, Both}
 use Rattle.weighting.specs.declared.Weighing.{Weighing}
 use Rattle.weighting.specs.declared.Weighing.the-variants.{Margin, Sum}
-use Rattle.pattern.specs.declared.Test.{Test}
 use Rattle.pattern.specs.declared.Guard.{Guard}
 use Rattle.pattern.specs.Slots.{all}
-use Rattle.pattern.specs.Sound.{testInRange, testKnown, guardInRange, guardKnown}
+use Rattle.pattern.specs.Sound.{boundInRange, bandInRange, testInRange, testKnown, guardInRange, guardKnown}
+use Rattle.pattern.proofs.SoundLaws.{band-parts}
 use Rattle.pattern_text.specs.Bytes.{Bytes, bytes}
 use Rattle.pattern_text.specs.Numeral.{decimal}
-use Rattle.pattern_text.specs.Form.{_▸_, _◂_, _⨾_, oneOf, writeMany, many, mapped, number, writeℤ, integer}
-use Rattle.pattern_text.specs.Line.{Header, weighing, PlaceLine, kind, EdgeLine, resets, Raw, signWord, kindWord, weighingWord, sign, test, guard, bracket, writeResets, headerLine, placeLine, edgeLine, renderLine, header, place, edge}
-use Rattle.pattern_text.specs.Fault.{Doc, rising}
+use Rattle.pattern_text.specs.Form.{_▸_, _◂_, _⨾_, oneOf, either, writeMany, many, mapped, number, writeℤ, integer}
+use Rattle.pattern_text.specs.Line.{Header, weighing, PlaceLine, kind, EdgeLine, resets, Raw, TestLine, side, inside, signWord, kindWord, weighingWord, sign, sideTest, bandTest, test, guard, bracket, writeResets, headerLine, placeLine, edgeLine, renderLine, header, place, edge}
+use Rattle.pattern_text.specs.Fault.{Doc, rising, lineInRange, lineKnown}
 use Rattle.pattern_text.specs.Text.{rawsOf, ended}
 use Rattle.pattern_text.proofs.Tools.{both, in-both, by-test}
 use Rattle.pattern_text.proofs.NumeralLaws.{decimal-small, decimal-large}
@@ -80,12 +80,27 @@ write-map g (x ∷ xs) = ap (_++_ (ended (g x))) (write-map g xs)
 
 -- ---- the lines
 
-test-size : (channels : ℕ) → channels ≤ 8 → (t : Test) → (testInRange t && testKnown channels t) ≡ true → length (test .write t) ≤ 22
-unfolding test mapped _⨾_ _◂_ sign oneOf number integer testInRange testKnown
-test-size channels n t h =
-    let b = both (leb (natAbs (t .bound)) 1_000_000) (ltb (t .channel) channels) h in
-    let c = ltb-true (t .channel) channels (b .1) in
-    simp length-append (omega (arith, sign-size (t .sign), small (t .channel) (omega arith), integer-size (t .bound) (leb-true (natAbs (t .bound)) 1_000_000 (b .0))))
+side-size : (channels : ℕ) (s : Sign) (c : ℕ) (b : ℤ) → channels ≤ 8 → boundInRange b ≡ true → ltb c channels ≡ true → length (sideTest .write (s, (c, b))) ≤ 31
+unfolding boundInRange sideTest _⨾_ _◂_ sign oneOf number integer
+side-size channels s c b n e k =
+    let m = ltb-true c channels k in
+    simp length-append (omega (arith, sign-size s, small c (omega arith), integer-size b (leb-true (natAbs b) 1_000_000 e)))
+
+band-size : (channels c : ℕ) (l h : ℤ) → channels ≤ 8 → bandInRange l h ≡ true → ltb c channels ≡ true → length (bandTest .write (c, (l, h))) ≤ 31
+unfolding bandTest _▸_ _⨾_ _◂_ number integer
+band-size channels c l h n e k =
+    let r = band-parts l h e in
+    let m = ltb-true c channels k in
+    simp length-append (omega (arith, small c (omega arith), integer-size l (r .low), integer-size h (r .high)))
+
+test-size : (channels : ℕ) → channels ≤ 8 → (t : TestLine) → (lineInRange t && lineKnown channels t) ≡ true → length (test .write t) ≤ 31
+unfolding test mapped either testInRange testKnown
+test-size channels n (side s c b) h =
+    let k = both (boundInRange b) (ltb c channels) h in
+    side-size channels s c b n (k .0) (k .1)
+test-size channels n (inside c l u) h =
+    let k = both (bandInRange l u) (ltb c channels) h in
+    band-size channels c l u n (k .0) (k .1)
 
 guard-size : (clocks : ℕ) → clocks ≤ 4 → (g : Guard) → (guardInRange g && guardKnown clocks g) ≡ true → length (guard .write g) ≤ 21
 unfolding guard mapped _⨾_ _◂_ sign oneOf number guardInRange guardKnown
@@ -95,16 +110,16 @@ guard-size clocks n g h =
     let d = leb-true (g .bound) 1_000 (b .0) in
     simp length-append (omega (arith, sign-size (g .sign), small (g .clock) (omega arith), small (g .bound) (omega arith)))
 
-place-size : (channels : ℕ) → channels ≤ 8 → (l : PlaceLine) → placeFits channels l ≡ true → length (ended (place l)) ≤ 102
+place-size : (channels : ℕ) → channels ≤ 8 → (l : PlaceLine) → placeFits channels l ≡ true → length (ended (place l)) ≤ 138
 unfolding ended renderLine placeLine mapped _▸_ _⨾_ _◂_ kind oneOf many placeFits
 place-size channels n l h =
-    let k = both (leb (length (l .tests)) 4) (all testInRange (l .tests) && all (testKnown channels) (l .tests)) h in
-    let m = both (all testInRange (l .tests)) (all (testKnown channels) (l .tests)) (k .1) in
+    let k = both (leb (length (l .tests)) 4) (all lineInRange (l .tests) && all (lineKnown channels) (l .tests)) h in
+    let m = both (all lineInRange (l .tests)) (all (lineKnown channels) (l .tests)) (k .1) in
     let c = leb-true (length (l .tests)) 4 (k .0) in
     simp length-append (omega (
       arith,
       kind-size (l .kind),
-      many-size (λ t. testInRange t && testKnown channels t) (test .write) 22 (test-size channels n) (l .tests) (all-join testInRange (testKnown channels) (l .tests) (m .0) (m .1)),
+      many-size (λ t. lineInRange t && lineKnown channels t) (test .write) 31 (test-size channels n) (l .tests) (all-join lineInRange (lineKnown channels) (l .tests) (m .0) (m .1)),
     ))
 
 known : (k m : ℕ) (cs : List ℕ) → rising k m cs ≡ true → all (λ c. ltb c m) cs ≡ true
@@ -165,6 +180,6 @@ short d f =
     (omega (
       arith,
       header-size (d .head) (f .head),
-      many-size (placeFits (d .head .channels)) (λ l. ended (place l)) 102 (place-size (d .head .channels) (r .channels)) (d .places) (f .places),
+      many-size (placeFits (d .head .channels)) (λ l. ended (place l)) 138 (place-size (d .head .channels) (r .channels)) (d .places) (f .places),
       many-size (edgeFits (d .head .clocks) (length (d .places))) (λ e. ended (edge e)) 147 (edge-size (d .head .clocks) (length (d .places)) (r .clocks) (f .few)) (d .edges) (f .edges),
     ))

@@ -78,7 +78,11 @@ take-pad size u xs = take-append-seam xs (replicate (size - length xs) u)
 
 -- ---- unused slots are alike
 
-less-only : (s : Sign) → isLess s ≡ true → s ≡ Less
+pub not-only : (b : Bool) → not b ≡ true → b ≡ false
+not-only true h = sym h
+not-only false h = refl
+
+pub less-only : (s : Sign) → isLess s ≡ true → s ≡ Less
 less-only Less h = refl
 less-only AtMost h = cc
 less-only More h = cc
@@ -90,25 +94,28 @@ plain-only Plain h = refl
 plain-only End h = cc
 plain-only Both h = cc
 
-null-only : (z : ℤ) → isNull z ≡ true → z ≡ pos 0
+pub null-only : (z : ℤ) → isNull z ≡ true → z ≡ pos 0
 null-only (pos n) h = ap pos (eqb-true n 0 h)
 null-only (negsuc n) h = cc
 
 pub test-only : (t : Test) → testUnused t ≡ true → t ≡ noTest
 unfolding testUnused
 test-only t h =
-    let k = three (isLess (t .sign)) (eqb (t .channel) 0) (isNull (t .bound)) h in
-    λ i. record { sign = less-only (t .sign) (k .0) i; channel = eqb-true (t .channel) 0 (k .1) i; bound = null-only (t .bound) (k .2) i }
+    let m = both (isLess (t .sign) && eqb (t .channel) 0 && isNull (t .bound) && not (t .band)) (isNull (t .high)) h in
+    let k = four (isLess (t .sign)) (eqb (t .channel) 0) (isNull (t .bound)) (not (t .band)) (m .0) in
+    λ i. record {
+      sign = less-only (t .sign) (k .0) i;
+      channel = eqb-true (t .channel) 0 (k .1) i;
+      bound = null-only (t .bound) (k .2) i;
+      band = not-only (t .band) (k .3) i;
+      high = null-only (t .high) (m .1) i;
+    }
 
 pub guard-only : (g : Guard) → guardUnused g ≡ true → g ≡ noGuard
 unfolding guardUnused
 guard-only g h =
     let k = three (isLess (g .sign)) (eqb (g .clock) 0) (eqb (g .bound) 0) h in
     λ i. record { sign = less-only (g .sign) (k .0) i; clock = eqb-true (g .clock) 0 (k .1) i; bound = eqb-true (g .bound) 0 (k .2) i }
-
-pub not-only : (b : Bool) → not b ≡ true → b ≡ false
-not-only true h = sym h
-not-only false h = refl
 
 pub place-only : (l : Place) → placeUnused l ≡ true → l ≡ noPlace
 unfolding placeUnused pad

@@ -1,8 +1,8 @@
 -- What fits and what is sound correspond, both ways.
 use Prim.Native.Nat.{ℕ, _≤_, _<_}
-use mathlib.Core.Path.{_≡_, refl, ap, ap₂, _∙_}
+use mathlib.Core.Path.{_≡_, refl, sym, ap, ap₂, _∙_}
 use mathlib.Core.List.{List, [], _∷_, map}
-use mathlib.Core.Bool.{Bool, true, false, not, _&&_}
+use mathlib.Core.Bool.{Bool, true, false, not, cond, _&&_}
 use native.Mathlib.Omega.{arith}
 use lib.Dec.{leb, ltb}
 use lib.ListN.{length, take, length-map}
@@ -13,13 +13,14 @@ use Rattle.pattern.specs.declared.Place.{Place}
 use Rattle.pattern.specs.declared.Edge.{Edge}
 use Rattle.pattern.specs.declared.Pattern.{Pattern}
 use Rattle.pattern.specs.Slots.{all, within, anything, slots}
-use Rattle.pattern.specs.Sound.{noTest, noPlace, noGuard, noEdge, testUnused, guardUnused, placeUnused, edgeUnused, testInRange, testKnown, guardInRange, guardKnown, headerInRange, placeSound, edgeSound, soundOf}
-use Rattle.pattern_text.specs.Line.{Header, PlaceLine, EdgeLine}
-use Rattle.pattern_text.specs.Fault.{Doc, rising, edgeKnown}
+use Rattle.pattern.specs.Sound.{noTest, noPlace, noGuard, noEdge, isLess, isNull, testUnused, guardUnused, placeUnused, edgeUnused, unsaidZero, testSound, guardInRange, guardKnown, headerInRange, placeSound, edgeSound, soundOf}
+use Rattle.pattern.proofs.SoundLaws.{test-parts}
+use Rattle.pattern_text.specs.Line.{Header, TestLine, side, inside, testOf, testLineOf, PlaceLine, EdgeLine}
+use Rattle.pattern_text.specs.Fault.{Doc, rising, edgeKnown, lineInRange, lineKnown}
 use Rattle.pattern_text.specs.Text.{pad, flags, flagged, placeOf, edgeOf, patternOf, placeLineOf, edgeLineOf, docOf}
 use Rattle.pattern_text.proofs.Tools.{both, four, in-both}
 use Rattle.pattern_text.proofs.Runs.{headFits, placeFits, edgeFits, Fits}
-use Rattle.pattern_text.proofs.Slots.{Slotted, slotted, pad-slots, take-pad, test-only, guard-only, not-only, place-only, edge-only}
+use Rattle.pattern_text.proofs.Slots.{Slotted, slotted, pad-slots, take-pad, less-only, null-only, test-only, guard-only, not-only, place-only, edge-only}
 use Rattle.pattern_text.proofs.Resets.{clocks-back, flagged-rise, flags-back, flags-known, flags-length, widen}
 
 -- ---- lists
@@ -54,34 +55,68 @@ all-any (x ∷ xs) = all-any xs
 
 -- ---- a place
 
-abbrev usedTest : ℕ → Test → Bool
-usedTest channels t = testInRange t && testKnown channels t
+-- a test that leaves unsaid what its kind does is what its line says
+line-test : (t : Test) → unsaidZero t ≡ true → testOf (testLineOf t) ≡ t
+unfolding unsaidZero
+line-test t e = by (t .band) refl e
+  where
+    by : (b : Bool) → t .band ≡ b → cond b (isLess (t .sign)) (isNull (t .high)) ≡ true
+        → testOf (cond b (inside (t .channel) (t .bound) (t .high)) (side (t .sign) (t .channel) (t .bound))) ≡ t
+    by true h e = λ i. record { sign = sym (less-only (t .sign) e) i; channel = t .channel; bound = t .bound; band = sym h i; high = t .high }
+    by false h e = λ i. record { sign = t .sign; channel = t .channel; bound = t .bound; band = sym h i; high = sym (null-only (t .high) e) i }
+
+unsaid-line : (x : TestLine) → unsaidZero (testOf x) ≡ true
+unfolding unsaidZero
+unsaid-line (side s c b) = refl
+unsaid-line (inside c l h) = refl
+
+test-line : (x : TestLine) → testLineOf (testOf x) ≡ x
+test-line (side s c b) = refl
+test-line (inside c l h) = refl
+
+abbrev usedLine : ℕ → TestLine → Bool
+usedLine channels x = lineInRange x && lineKnown channels x
 
 module _ (channels : ℕ) where
+  used-line : (t : Test) → testSound channels t ≡ true → usedLine channels (testLineOf t) ≡ true
+  used-line t h = let p = test-parts channels t h in rw (line-test t (p .rest)) (in-both (p .inRange) (p .known))
+
+  sound-line : (x : TestLine) → usedLine channels x ≡ true → testSound channels (testOf x) ≡ true
+  unfolding testSound
+  sound-line x h = in-both h (unsaid-line x)
+
   place-fits : (l : Place) → placeSound channels l ≡ true → placeFits channels (placeLineOf l) ≡ true
   unfolding placeSound placeFits placeLineOf
   place-fits l h =
-      let s = slotted (usedTest channels) testUnused 4 noTest test-only (l .count) (l .tests) h in
+      let s = slotted (testSound channels) testUnused 4 noTest test-only (l .count) (l .tests) h in
       let n = s .fits in
       let c = s .count in
-      in-both (le-leb (length (take (l .count) (l .tests))) 4 (omega arith)) (all-split testInRange (testKnown channels) (take (l .count) (l .tests)) (s .used-ones))
+      let ts = take (l .count) (l .tests) in
+      let m = length-map ts testLineOf in
+      in-both (le-leb (length (map testLineOf ts)) 4 (omega arith)) (all-split lineInRange (lineKnown channels) (map testLineOf ts) (all-map (testSound channels) testLineOf (usedLine channels) used-line ts (s .used-ones)))
 
   place-back : (l : Place) → placeSound channels l ≡ true → placeOf (placeLineOf l) ≡ l
   unfolding placeSound placeOf placeLineOf
   place-back l h =
-      let s = slotted (usedTest channels) testUnused 4 noTest test-only (l .count) (l .tests) h in
-      λ i. record { kind = l .kind; tests = s .padded i; count = s .count i }
+      let s = slotted (testSound channels) testUnused 4 noTest test-only (l .count) (l .tests) h in
+      let ts = take (l .count) (l .tests) in
+      let back : map testOf (map testLineOf ts) ≡ ts = map-back (testSound channels) testLineOf testOf (λ t e. line-test t (test-parts channels t e .rest)) ts (s .used-ones) in
+      λ i. record { kind = l .kind; tests = (ap (pad 4 noTest) back ∙ s .padded) i; count = (length-map ts testLineOf ∙ s .count) i }
 
   place-sound : (l : PlaceLine) → placeFits channels l ≡ true → placeSound channels (placeOf l) ≡ true
   unfolding placeSound placeFits placeOf testUnused
   place-sound l h =
-      let k = both (leb (length (l .tests)) 4) (all testInRange (l .tests) && all (testKnown channels) (l .tests)) h in
-      let m = both (all testInRange (l .tests)) (all (testKnown channels) (l .tests)) (k .1) in
-      pad-slots (usedTest channels) testUnused 4 noTest refl (l .tests) (leb-true (length (l .tests)) 4 (k .0)) (all-join testInRange (testKnown channels) (l .tests) (m .0) (m .1))
+      let k = both (leb (length (l .tests)) 4) (all lineInRange (l .tests) && all (lineKnown channels) (l .tests)) h in
+      let m = both (all lineInRange (l .tests)) (all (lineKnown channels) (l .tests)) (k .1) in
+      let n = length-map (l .tests) testOf in
+      rw n at (pad-slots (testSound channels) testUnused 4 noTest refl (map testOf (l .tests)) (rw n (leb-true (length (l .tests)) 4 (k .0)))
+      (all-map (usedLine channels) testOf (testSound channels) sound-line (l .tests) (all-join lineInRange (lineKnown channels) (l .tests) (m .0) (m .1))))
 
 place-line-back : (l : PlaceLine) → placeLineOf (placeOf l) ≡ l
 unfolding placeOf placeLineOf
-place-line-back l = λ i. record { kind = l .kind; tests = take-pad 4 noTest (l .tests) i }
+place-line-back l =
+    let t : take (length (l .tests)) (pad 4 noTest (map testOf (l .tests))) ≡ map testOf (l .tests) = rw (← length-map (l .tests) testOf) (take-pad 4 noTest (map testOf (l .tests))) in
+    λ i. record { kind = l .kind; tests = (ap (map testLineOf) t ∙ map-back anything testOf testLineOf (λ x _. test-line x) (l .tests) (all-any (l .tests))) i }
 
 -- ---- an edge
 

@@ -8,18 +8,18 @@ use lib.ListN.{replicate}
 use Rattle.weighting.specs.declared.Weighing.{Weighing}
 use Rattle.weighting.specs.declared.Weighing.the-variants.{Margin, Sum}
 use Rattle.pattern.specs.declared.Refusal.the-variants.{BrokenForm, OutOfRange, TooMany, UnknownIndex}
-use Rattle.pattern.specs.Sound.{testInRange, testKnown, guardInRange, guardKnown, headerInRange}
+use Rattle.pattern.specs.Sound.{boundInRange, bandInRange, testInRange, testKnown, guardInRange, guardKnown, headerInRange}
 use Rattle.pattern_text.specs.Bytes.{Bytes, bytes}
 use Rattle.pattern_text.specs.Numeral.{decimalF, decimal, front, after, plain, valueFrom, numeralOf}
-use Rattle.pattern_text.specs.Form.{strip, _▸_, _◂_, _⨾_, firstOf, oneOf, writeMany, readMany, many, mapped, number, writeℤ, integer}
-use Rattle.pattern_text.specs.Line.{weighing, kind, resets, signWord, kindWord, weighingWord, sign, test, guard, bracket, writeResets, headerLine, placeLine, edgeLine, renderLine, readLine, lineOf}
+use Rattle.pattern_text.specs.Form.{strip, _▸_, _◂_, _⨾_, firstOf, oneOf, either, writeMany, readMany, many, mapped, number, writeℤ, integer}
+use Rattle.pattern_text.specs.Line.{weighing, kind, resets, signWord, kindWord, weighingWord, sign, sideTest, bandTest, test, guard, bracket, writeResets, headerLine, placeLine, edgeLine, renderLine, readLine, lineOf}
 use Rattle.pattern_text.specs.Fault.{judged, rising, edgeKnown, headerFault, placeFault, edgeFault, stepOf}
 use Rattle.pattern_text.specs.Text.{Answer, linesOf, pad, among, flags, flagged, placeOf, edgeOf, patternOf, placeLineOf, edgeLineOf, docOf, finish, readLines, readOf, rawsOf, ended, renderOf, accepted, refused}
 use Rattle.pattern_text.specs.Example.{exampleText, example}
 
 -- `readOf` of a quoted text, with all that it computes by
 readText : String → Answer
-unfolding strip _▸_ _◂_ _⨾_ firstOf oneOf writeMany readMany many mapped number writeℤ integer decimalF decimal front after plain valueFrom numeralOf signWord kindWord weighingWord sign kind weighing test guard bracket writeResets resets headerLine placeLine edgeLine renderLine readLine lineOf testInRange testKnown guardInRange guardKnown headerInRange judged rising edgeKnown headerFault placeFault edgeFault stepOf linesOf pad among flags flagged placeOf edgeOf patternOf placeLineOf edgeLineOf docOf finish readLines readOf rawsOf ended renderOf
+unfolding strip _▸_ _◂_ _⨾_ firstOf oneOf either writeMany readMany many mapped number writeℤ integer decimalF decimal front after plain valueFrom numeralOf signWord kindWord weighingWord sign kind weighing sideTest bandTest test guard bracket writeResets resets headerLine placeLine edgeLine renderLine readLine lineOf boundInRange bandInRange testInRange testKnown guardInRange guardKnown headerInRange judged rising edgeKnown headerFault placeFault edgeFault stepOf linesOf pad among flags flagged placeOf edgeOf patternOf placeLineOf edgeLineOf docOf finish readLines readOf rawsOf ended renderOf
 readText s = readOf (bytes s)
 
 pub reads : (w : Weighing) → readOf (exampleText w) ≡ accepted (example w)
@@ -108,3 +108,25 @@ five = refl
 range-first : readText "(pattern sum 1 2 1 4)\n(place both (< 9 1000001))\n" ≡ refused OutOfRange
 unfolding readText
 range-first = refl
+
+-- a band is read, and written; its low above its high is out of range, and so is an end of it; one with a single end is
+-- broken in form
+band-read : isAccepted (readText "(pattern sum 1 0 1 4)\n(place both (in 0 -5 1000000) (in 0 7 7))\n") ≡ true
+unfolding readText isAccepted
+band-read = refl
+
+band-turned : readText "(pattern sum 1 0 1 4)\n(place both (in 0 7 6))\n" ≡ refused OutOfRange
+unfolding readText
+band-turned = refl
+
+band-high : readText "(pattern sum 1 0 1 4)\n(place both (in 0 7 1000001))\n" ≡ refused OutOfRange
+unfolding readText
+band-high = refl
+
+band-channel : readText "(pattern sum 1 0 1 4)\n(place both (in 1 7 8))\n" ≡ refused UnknownIndex
+unfolding readText
+band-channel = refl
+
+band-short : readText "(pattern sum 1 0 1 4)\n(place both (in 0 7))\n" ≡ refused BrokenForm
+unfolding readText
+band-short = refl

@@ -2,6 +2,7 @@
 use Prim.Native.Nat.{ℕ, zero, suc}
 use Prim.Native.String.{String}
 use mathlib.Core.List.{List, [], _∷_, _++_}
+use mathlib.Core.Logic.{_⊎_, inl, inr}
 use mathlib.Core.Bool.{cond}
 use lib.Dec.{eqb}
 use lib.ListN.{length}
@@ -56,6 +57,14 @@ firstOf word (a ∷ l) b = orElse (giving (λ _. a) (strip (bytes (word a)) b)) 
 
 unfoldable pub oneOf : {A : Type 0} → (A → String) → List A → Form A
 oneOf word l = record { write = λ a. bytes (word a); read = firstOf word l }
+
+-- one form or, where it cannot be read, another
+abbrev pub writeEither : {A B : Type 0} → Form A → Form B → A ⊎ B → Bytes
+writeEither f g (inl a) = f .write a
+writeEither f g (inr b) = g .write b
+
+unfoldable pub either : {A B : Type 0} → Form A → Form B → Form (A ⊎ B)
+either f g = record { write = writeEither f g; read = λ b. orElse (giving inl (f .read b)) (giving inr (g .read b)) }
 
 -- a form again and again, as often as it can be read; the count only has to be large enough
 unfoldable pub writeMany : {A : Type 0} → (A → Bytes) → List A → Bytes

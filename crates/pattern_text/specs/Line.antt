@@ -1,8 +1,11 @@
--- The lines of a pattern text (document 01, 'Pattern text'), with numbers of any size.
+-- The lines of a pattern text (document 01, 'Pattern text'; document 02, R-1), with numbers of any size.
 use Prim.Native.Nat.{ℕ}
 use Prim.Native.String.{String}
 use mathlib.Core.List.{List, [], _∷_}
 use mathlib.Core.Option.{Option, none, some}
+use mathlib.Core.Logic.{_⊎_, inl, inr}
+use mathlib.Core.Bool.{cond}
+use lib.IntN.{ℤ}
 use Rattle.pattern.specs.declared.Sign.{Sign}
 use Rattle.pattern.specs.declared.Sign.the-variants.{Less, AtMost, More, AtLeast}
 use Rattle.pattern.specs.declared.Kind.{Kind}
@@ -11,8 +14,9 @@ use Rattle.weighting.specs.declared.Weighing.{Weighing}
 use Rattle.weighting.specs.declared.Weighing.the-variants.{Margin, Sum}
 use Rattle.pattern.specs.declared.Test.{Test}
 use Rattle.pattern.specs.declared.Guard.{Guard}
+use Rattle.pattern.specs.Sound.{sideOn, bandOn}
 use Rattle.pattern_text.specs.Bytes.{Bytes, Reading, got, broken}
-use Rattle.pattern_text.specs.Form.{Form, giving, orElse, _▸_, _◂_, _⨾_, oneOf, many, mapped, number, integer}
+use Rattle.pattern_text.specs.Form.{Form, giving, orElse, _▸_, _◂_, _⨾_, oneOf, either, many, mapped, number, integer}
 
 -- "Line 1: `margin` or `sum`; channels; clocks; the window's low; its high"
 pub record Header : Type 0 where
@@ -22,10 +26,24 @@ pub record Header : Type 0 where
   pub low : ℕ
   pub high : ℕ
 
+-- a test: "a sign .., a channel, and a bound"; or a band (R-1): a channel, a low and a high
+pub data TestLine : Type 0 where
+  side : Sign → (channel : ℕ) → (bound : ℤ) → TestLine
+  inside : (channel : ℕ) → (low high : ℤ) → TestLine
+
+-- the test that it says
+abbrev pub testOf : TestLine → Test
+testOf (side s c b) = sideOn s c b
+testOf (inside c l h) = bandOn c l h
+
+-- and back
+abbrev pub testLineOf : Test → TestLine
+testLineOf t = cond (t .band) (inside (t .channel) (t .bound) (t .high)) (side (t .sign) (t .channel) (t .bound))
+
 -- a place: "`start`, `plain`, `end` or `both`, with .. tests"
 pub record PlaceLine : Type 0 where
   pub kind : Kind
-  pub tests : List Test
+  pub tests : List TestLine
 
 -- an edge: "from, to, .. guards .., then resets"
 pub record EdgeLine : Type 0 where
@@ -72,10 +90,25 @@ weighing = oneOf weighingWord (Margin ∷ Sum ∷ [])
 
 -- ---- the parts
 
--- ` (< 0 15)`: "A test is a sign, a channel, and a bound"
-unfoldable pub test : Form Test
-test = mapped (λ (s, (c, b)). record { sign = s; channel = c; bound = b }) (λ t. (t .sign, (t .channel, t .bound)))
-    (sign ⨾ number ◂ " " ⨾ integer ◂ ")")
+-- ` (< 0 15)`
+unfoldable pub sideTest : Form (Sign × (ℕ × ℤ))
+sideTest = sign ⨾ number ◂ " " ⨾ integer ◂ ")"
+
+-- ` (in 0 -5 5)`: a band, its two ends written as a bound is
+unfoldable pub bandTest : Form (ℕ × (ℤ × ℤ))
+bandTest = " (in " ▸ number ◂ " " ⨾ integer ◂ " " ⨾ integer ◂ ")"
+
+abbrev pub testIn : (Sign × (ℕ × ℤ)) ⊎ (ℕ × (ℤ × ℤ)) → TestLine
+testIn (inl (s, (c, b))) = side s c b
+testIn (inr (c, (l, h))) = inside c l h
+
+abbrev pub partsOf : TestLine → (Sign × (ℕ × ℤ)) ⊎ (ℕ × (ℤ × ℤ))
+partsOf (side s c b) = inl (s, (c, b))
+partsOf (inside c l h) = inr (c, (l, h))
+
+-- a test of either kind
+unfoldable pub test : Form TestLine
+test = mapped testIn partsOf (either sideTest bandTest)
 
 -- ` (< 0 3)`: "a sign, a clock, a bound"
 unfoldable pub guard : Form Guard

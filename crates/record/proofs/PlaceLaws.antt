@@ -5,7 +5,7 @@ use native.Mathlib.Nat.{mul-le-mul-right}
 use native.Mathlib.Omega.{arith}
 use mathlib.Core.Path.{_≡_, sym, ap, subst, _∙_}
 use mathlib.Core.List.{List, [], _∷_, map, List·Memᴰ·cases-cons, List·Memᴰ·not-nil}
-use mathlib.Core.Bool.{true, _&&_}
+use mathlib.Core.Bool.{true}
 use mathlib.Core.Logic.{⊎-elim}
 use borrow.Author.Tests.{leb-true}
 use lib.Dec.{T}
@@ -15,22 +15,20 @@ use lib.IntN.{ℤ, pos, natAbs}
 use Rattle.integers.specs.Least.{minZ}
 use Rattle.integers.proofs.Order.{le-through}
 use Rattle.integers.proofs.Least.{min-left}
-use Rattle.integers.proofs.Ranges.{abs-sub}
 use Rattle.weighting.specs.declared.Weighing.{Weighing}
 use Rattle.weighting.specs.declared.Weighing.the-variants.{Margin, Sum}
 use Rattle.weighting.specs.Weighting.{combineFrom}
 use Rattle.weighting.specs.Weightings.{weightingOf}
 use Rattle.weighting.proofs.Sizes.{Within, combineFrom-size, margin-size}
-use Rattle.pattern.specs.declared.Sign.{Sign}
-use Rattle.pattern.specs.declared.Sign.the-variants.{Less, AtMost, More, AtLeast}
 use Rattle.pattern.specs.declared.Test.{Test}
 use Rattle.pattern.specs.declared.Place.{Place}
 use Rattle.pattern.specs.declared.Pattern.{Pattern}
 use Rattle.pattern.specs.Slots.{all}
-use Rattle.pattern.specs.Sound.{noPlace, testInRange, testKnown, placeSound, soundOf}
+use Rattle.pattern.specs.Sound.{noPlace, testInRange, testSound, placeSound, soundOf}
 use Rattle.pattern.specs.InUse.{testsOf, placeAt}
-use Rattle.pattern.specs.Distance.{Sample, readingOf, distanceFrom, distanceIn, distancesOf, placeWorth}
-use Rattle.pattern.proofs.SoundLaws.{both, slotted, parts}
+use Rattle.pattern.specs.Distance.{Sample, readingOf, distanceIn, distancesOf, placeWorth}
+use Rattle.pattern.proofs.Claims.{distances-in-range}
+use Rattle.pattern.proofs.SoundLaws.{both, slotted, parts, test-parts}
 use Rattle.record.specs.Record.{valueInRange}
 use Rattle.record.proofs.ListLaws.{all-at}
 
@@ -58,28 +56,15 @@ reading-size (v ∷ x) zero e = leb-true (natAbs v) 1000000 (both (valueInRange 
 reading-size (v ∷ x) (suc k) e = reading-size x k (both (valueInRange v) (all valueInRange x) e .1)
 
 pub distance-size : (x : Sample) (t : Test) → all valueInRange x ≡ true → testInRange t ≡ true → natAbs (distanceIn x t) ≤ 2000000
-unfolding testInRange
-distance-size x t e h = by (t .sign)
-  where
-    r : natAbs (readingOf x (t .channel)) ≤ 1000000
-    r = reading-size x (t .channel) e
+distance-size x t e h = distances-in-range t (readingOf x (t .channel)) h (reading-size x (t .channel) e)
 
-    b : natAbs (t .bound) ≤ 1000000
-    b = leb-true (natAbs (t .bound)) 1000000 h
-
-    by : (s : Sign) → natAbs (distanceFrom s (t .bound) (readingOf x (t .channel))) ≤ 2000000
-    by Less = omega (arith, r, b, abs-sub (t .bound) (readingOf x (t .channel)))
-    by AtMost = omega (arith, r, b, abs-sub (t .bound) (readingOf x (t .channel)))
-    by More = omega (arith, r, b, abs-sub (readingOf x (t .channel)) (t .bound))
-    by AtLeast = omega (arith, r, b, abs-sub (readingOf x (t .channel)) (t .bound))
-
-distances-size : (channels : ℕ) (x : Sample) (ts : List Test) → all valueInRange x ≡ true → all (λ t. testInRange t && testKnown channels t) ts ≡ true
+distances-size : (channels : ℕ) (x : Sample) (ts : List Test) → all valueInRange x ≡ true → all (testSound channels) ts ≡ true
     → Within 2000000 (map (distanceIn x) ts)
 distances-size n x [] e h a m = absurd (List·Memᴰ·not-nil m)
 distances-size n x (t ∷ ts) e h a m =
-    let k = both (testInRange t && testKnown n t) (all (λ t. testInRange t && testKnown n t) ts) h in
+    let k = both (testSound n t) (all (testSound n) ts) h in
     ⊎-elim
-    (λ q. subst (λ (z : ℤ). natAbs z ≤ 2000000) (sym q) (distance-size x t e (both (testInRange t) (testKnown n t) (k .0) .0)))
+    (λ q. subst (λ (z : ℤ). natAbs z ≤ 2000000) (sym q) (distance-size x t e (test-parts n t (k .0) .inRange)))
     (λ q. distances-size n x ts e (k .1) a q)
     (List·Memᴰ·cases-cons m)
 

@@ -1,5 +1,5 @@
 -- The claims, proved.
-use Prim.Native.Nat.{ℕ, suc, _+_, _-_, _≤_, _<_, min}
+use Prim.Native.Nat.{ℕ, _+_, _-_, _≤_, _<_, min}
 use native.Mathlib.Omega.{arith}
 use mathlib.Core.Path.{_≡_, refl, sym, ap, ap₂, _∙_}
 use mathlib.Core.List.{List, [], _∷_, _++_, map}
@@ -8,8 +8,8 @@ use mathlib.Core.Bool.{Bool, true}
 use lib.Dec.{eqb}
 use lib.ListN.{length, take, drop, length-append, length-drop}
 use lib.Seq.{take-all, drop-append-seam}
-use lib.IntN.{ℤ, pos, negsuc}
-use borrow.Author.Tests.{leb-true, eqb-true}
+use lib.IntN.{ℤ, pos}
+use borrow.Author.Tests.{eqb-true}
 use Rattle.pattern.specs.declared.Refusal.{Refusal}
 use Rattle.pattern.specs.Slots.{all}
 use Rattle.pattern.proofs.SlotLaws.{all-append}
@@ -25,6 +25,7 @@ use Rattle.record_text.specs.Text.{recordForm, renderRecord, readRecord, durati
 use Rattle.record_text.specs.Claims.{Outcome, long, formless, unsound, sound}
 use Rattle.record_text.proofs.LineLaws.{ended-faithful, records, render-append, render-long}
 use Rattle.record_text.proofs.Theorems.{refusals-exact}
+use Rattle.line_lists.proofs.Held.{held-is}
 use Rattle.record_read.specs.Line.{limit, keptValues, pieceIn, pieceAt}
 use Rattle.record_read.specs.Claims.{PiecesRead, PiecesEnd, PiecesLeft}
 use Rattle.record_read.proofs.Walking.{line-shorter}
@@ -63,13 +64,9 @@ unfolding durationsOf total
 duration-small [] r after = omega arith
 duration-small (b ∷ before) r after = omega (arith, duration-small before r after)
 
-held-one : (v : ℤ) → valueInRange v ≡ true → held v ≡ v
-held-one (pos n) h = let k = leb-true n 1_000_000 h in ap pos (omega arith)
-held-one (negsuc n) h = let k = leb-true (suc n) 1_000_000 h in ap negsuc (omega arith)
-
 held-same : (vs : List ℤ) → all valueInRange vs ≡ true → map held vs ≡ vs
 held-same [] h = refl
-held-same (v ∷ vs) h = let k = both (valueInRange v) (all valueInRange vs) h in ap₂ _∷_ (held-one v (k .0)) (held-same vs (k .1))
+held-same (v ∷ vs) h = let k = both (valueInRange v) (all valueInRange vs) h in ap₂ _∷_ (held-is v (k .0)) (held-same vs (k .1))
 
 values-inside : (before : List RawPiece) (r : RawPiece) (after : List RawPiece) → all valueInRange (valuesOf (before ++ r ∷ after)) ≡ true → all valueInRange (valuesIn r) ≡ true
 unfolding valuesOf

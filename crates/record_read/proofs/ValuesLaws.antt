@@ -18,7 +18,7 @@ use Rattle.text_scan.specs.declared.Integer.{Integer}
 use Rattle.text_scan.specs.declared.Integer.the-variants.{Value, Broken}
 use Rattle.text_scan.specs.Scan.{endOf, held, wordAt, integerAt}
 use Rattle.text_scan.proofs.Rests.{rests-form, Met, integered, no-integer, word-found, word-missing}
-use Rattle.line_parts.proofs.TestLaws.{held-fits}
+use Rattle.text_scan.proofs.Composed.{held-fits}
 use Rattle.line_lists.proofs.Gather.{shrinks, gather, all-of, Walk, arrived, walked, walked-end, Turned, turn-end, turn-more, many-got}
 use Rattle.line_lists.proofs.Held.{held-leb, kept-more, all-more, counted}
 use Rattle.record.specs.Record.{valueInRange}

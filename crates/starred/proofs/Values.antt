@@ -4,7 +4,7 @@ use mathlib.Core.List.{flatMap, zipWith}
 use Rattle.weighting.specs.declared.Weighing.the-variants.{Margin, Sum}
 use Rattle.weighting.specs.Weighting.{combineFrom}
 use Rattle.pattern.specs.Slots.{slots}
-use Rattle.pattern.specs.Sound.{testUnused, guardUnused, placeUnused, edgeUnused, testInRange, testKnown, guardInRange, guardKnown, headerInRange, placeSound, edgeSound, soundOf}
+use Rattle.pattern.specs.Sound.{testUnused, guardUnused, placeUnused, edgeUnused, boundInRange, unsaidZero, testInRange, testKnown, testSound, guardInRange, guardKnown, headerInRange, placeSound, edgeSound, soundOf}
 use Rattle.pattern.specs.Cells.{boundsOn, largest, ceilingOf, clockCells, cellsFor, cellsNeeded}
 use Rattle.pattern.specs.Clocks.{guardsHold, afterResets}
 use Rattle.pattern.specs.Distance.{placeWorth, distancesOf}
@@ -28,7 +28,7 @@ accepted : checkNumber 1 exampleText ≡ 0
 accepted = sym (check-numbers 1 exampleText) ∙ ap (λ o. checkedAs (checkedOf o)) record-text.sound
 
 pub starred-hold : Starred
-unfolding durationsOf valuesOf flatMap slots testUnused guardUnused placeUnused edgeUnused testInRange testKnown guardInRange guardKnown headerInRange placeSound edgeSound soundOf boundsOn largest ceilingOf clockCells cellsFor cellsNeeded stepsFit recordSound total bookOf piecesOf sampleAt ticksOf sameSample absorb joined observed canStep goes isRun lengthOf stepsOf stayWorth stayWorths runWorth priceOf guardsHold afterResets zipWith combineFrom placeWorth distancesOf
+unfolding durationsOf valuesOf flatMap slots testUnused guardUnused placeUnused edgeUnused boundInRange testInRange testKnown unsaidZero testSound guardInRange guardKnown headerInRange placeSound edgeSound soundOf boundsOn largest ceilingOf clockCells cellsFor cellsNeeded stepsFit recordSound total bookOf piecesOf sampleAt ticksOf sameSample absorb joined observed canStep goes isRun lengthOf stepsOf stayWorth stayWorths runWorth priceOf guardsHold afterResets zipWith combineFrom placeWorth distancesOf
 starred-hold = (
   ap dueTo (pattern-text.reads Margin),
   (

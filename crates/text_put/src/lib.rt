@@ -81,3 +81,11 @@ pub fn put_integer(text: &mut [u8], at: usize, number: i64) -> usize
     }
     put_number(text, at, size)
 }
+
+// A bound and a byte after it.
+pub fn put_bound_and(text: &mut [u8], at: usize, bound: i32, byte: u8) -> usize
+    ensures { λ r. ⌜ Put (now (text .entry)) (now (text .exit)) at r (writeℤ bound ++ (byte ∷ [])) ⌝ }
+{
+    let n = put_integer(text, at, bound as i64);
+    put_byte(text, n, byte)
+}

@@ -1,4 +1,4 @@
--- A number with a word after it, and an integer, from their parts.
+-- A number or an integer with a word after it, and an integer, from their parts.
 use Prim.Native.Nat.{ℕ, zero, suc, _-_, _≤_, _<_, min}
 use native.Mathlib.Omega.{arith}
 use mathlib.Core.Path.{_≡_, refl, sym, ap, ap₂, _∙_}
@@ -9,14 +9,15 @@ use lib.IntN.{ℤ, pos, negsuc, _-ℤ_}
 use mir.Syntax.{w32}
 use mir.Val.{SFits, toZ, ofZ}
 use mir.Facts.{toZ-pos, toZ-ofZ}
-use Rattle.pattern_text.specs.Bytes.{Bytes}
+use Rattle.pattern_text.specs.Bytes.{Bytes, Reading, broken}
+use Rattle.pattern_text.specs.Numeral.{numeralOf}
 use Rattle.pattern_text.specs.Form.{minus, integer}
 use Rattle.text_scan.specs.declared.Found as found
 use Rattle.text_scan.specs.declared.Number as number
 use Rattle.text_scan.specs.declared.Integer as whole
-use Rattle.text_scan.specs.Scan.{wordAt, cap, numberAt, numberThenAt, integerIn, integerAt, minusAt}
+use Rattle.text_scan.specs.Scan.{placed, wordAt, cap, numberAt, followed, numberThenAt, held, integerIn, integerAt, integerThenAt, minusAt}
 use Rattle.text_scan.proofs.Position.{end-drop}
-use Rattle.text_scan.proofs.Rests.{word-found, word-missing, number-found, number-missing}
+use Rattle.text_scan.proofs.Rests.{Met, word-found, word-missing, number-found, number-missing, integer-found, integer-missing}
 
 pub number-within : (t : Bytes) (at v n : ℕ) → number.the-variants.Value v n ≡ numberAt t at → n ≤ length t
 number-within t at v n e = number-found t at v n e .within
@@ -24,26 +25,62 @@ number-within t at v n e = number-found t at v n e .within
 pub number-small : (t : Bytes) (at v n : ℕ) → number.the-variants.Value v n ≡ numberAt t at → v ≤ cap
 number-small t at v n e = omega (arith, number-found t at v n e .made)
 
+pub integer-within : (t : Bytes) (at : ℕ) (z : ℤ) (n : ℕ) → whole.the-variants.Value z n ≡ integerAt t at → n ≤ length t
+integer-within t at z n e = integer-found t at z n e .within
+
 pub word-within : (w t : Bytes) (at n : ℕ) → found.the-variants.At n ≡ wordAt w t at → n ≤ length t
 word-within w t at n e = word-found w t at n e .within
 
--- ---- a number and then a word
+-- a number that is held is an i32
+pub held-fits : (z : ℤ) → SFits w32 (held z)
+held-fits (pos n) = record { sfits = omega arith }
+held-fits (negsuc n) = record { sfits = omega arith }
+
+pub held-back : (v z : ℤ) → v ≡ held z → toZ w32 (ofZ w32 v) ≡ v
+held-back v z e = rw e (toZ-ofZ (held-fits z))
+
+-- ---- something and then a word
+
+-- what was read before the word is missing, or the word is, or both are there
+module _ {A B R : Type 0} (value : B → ℕ → R) (none : R) (stand : A → B) (f : Bytes → Reading A) (w t : Bytes) (at : ℕ) where
+  pub then-no-first : f (drop at t) ≡ broken → none ≡ placed (λ a. value (stand a)) none t (followed f w (drop at t))
+  then-no-first e = rw e refl
+
+  pub then-no-word : (y : B) (n : ℕ) → Met stand t (f (drop at t)) y n → found.the-variants.Nothing ≡ wordAt w t n → none ≡ placed (λ a. value (stand a)) none t (followed f w (drop at t))
+  then-no-word y n k e = rw (k .is, word-missing w t n e) refl
+
+  pub then-is : (y : B) (n m : ℕ) → Met stand t (f (drop at t)) y n → found.the-variants.At m ≡ wordAt w t n → value y m ≡ placed (λ a. value (stand a)) none t (followed f w (drop at t))
+  then-is y n m k e =
+      let l = word-found w t n m e in
+      rw (k .is, l .is, end-drop t m (l .within)) (ap (λ x. value x m) (k .made))
 
 module _ (w t : Bytes) (at : ℕ) where
-  pub then-no-number : number.the-variants.Broken ≡ numberAt t at → number.the-variants.Broken ≡ numberThenAt w t at
+  pub number-then-no-number : number.the-variants.Broken ≡ numberAt t at → number.the-variants.Broken ≡ numberThenAt w t at
   unfolding numberThenAt
-  then-no-number e = rw (number-missing t at e) refl
+  number-then-no-number e = then-no-first number.the-variants.Value number.the-variants.Broken (min cap) numeralOf w t at (number-missing t at e)
 
-  pub then-no-word : (v n : ℕ) → number.the-variants.Value v n ≡ numberAt t at → found.the-variants.Nothing ≡ wordAt w t n → number.the-variants.Broken ≡ numberThenAt w t at
+  pub number-then-no-word : (v n : ℕ) → number.the-variants.Value v n ≡ numberAt t at → found.the-variants.Nothing ≡ wordAt w t n → number.the-variants.Broken ≡ numberThenAt w t at
   unfolding numberThenAt
-  then-no-word v n e f = rw (number-found t at v n e .is, word-missing w t n f) refl
+  number-then-no-word v n e f = then-no-word number.the-variants.Value number.the-variants.Broken (min cap) numeralOf w t at v n (number-found t at v n e) f
 
-  pub then-is : (v n m : ℕ) → number.the-variants.Value v n ≡ numberAt t at → found.the-variants.At m ≡ wordAt w t n → number.the-variants.Value v m ≡ numberThenAt w t at
+  pub number-then-is : (v n m : ℕ) → number.the-variants.Value v n ≡ numberAt t at → found.the-variants.At m ≡ wordAt w t n → number.the-variants.Value v m ≡ numberThenAt w t at
   unfolding numberThenAt
-  then-is v n m e f =
-      let k = number-found t at v n e in
-      let l = word-found w t n m f in
-      rw (k .is, l .is, end-drop t m (l .within)) (ap (λ (x : ℕ). number.the-variants.Value x m) (k .made))
+  number-then-is v n m e f = then-is number.the-variants.Value number.the-variants.Broken (min cap) numeralOf w t at v n m (number-found t at v n e) f
+
+  pub integer-then-no-integer : whole.the-variants.Broken ≡ integerAt t at → whole.the-variants.Broken ≡ integerThenAt w t at
+  unfolding integerThenAt
+  integer-then-no-integer e = then-no-first whole.the-variants.Value whole.the-variants.Broken held (integer .read) w t at (integer-missing t at e)
+
+  pub integer-then-no-word : (v : ℤ) (n : ℕ) → whole.the-variants.Value v n ≡ integerAt t at → found.the-variants.Nothing ≡ wordAt w t n → whole.the-variants.Broken ≡ integerThenAt w t at
+  unfolding integerThenAt
+  integer-then-no-word v n e f = then-no-word whole.the-variants.Value whole.the-variants.Broken held (integer .read) w t at v n (integer-found t at v n e) f
+
+  -- what was read is an i32
+  pub integer-then-is : (v : ℤ) (n m : ℕ) → whole.the-variants.Value v n ≡ integerAt t at → found.the-variants.At m ≡ wordAt w t n → whole.the-variants.Value (toZ w32 (ofZ w32 v)) m ≡ integerThenAt w t at
+  unfolding integerThenAt
+  integer-then-is v n m e f =
+      let k = integer-found t at v n e in
+      ap (λ z. whole.the-variants.Value z m) (held-back v (k .raw) (k .made)) ∙ then-is whole.the-variants.Value whole.the-variants.Broken held (integer .read) w t at v n m k f
 
 -- ---- after a minus
 

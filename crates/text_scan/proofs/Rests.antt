@@ -13,7 +13,7 @@ use Rattle.pattern_text.proofs.NumeralLaws.{numeral}
 use Rattle.text_scan.specs.declared.Found as found
 use Rattle.text_scan.specs.declared.Number as number
 use Rattle.text_scan.specs.declared.Integer as whole
-use Rattle.text_scan.specs.Scan.{endOf, placed, wordAt, heldNumberAt, cap, numberIn, numberAt, numberThen, numberThenAt, held, integerIn, integerAt}
+use Rattle.text_scan.specs.Scan.{endOf, placed, wordAt, heldNumberAt, cap, numberIn, numberAt, followed, numberThenAt, held, integerIn, integerAt, integerThenAt}
 use Rattle.text_scan.proofs.Position.{rest-at}
 
 -- what is left when something was read is the rest at a position
@@ -29,10 +29,10 @@ rests-word w t at u r e = rest-at t at w r (strip-sound w (drop at t) r u e)
 pub rests-number : (t : Bytes) (at : ℕ) → Rests t (numeralOf (drop at t))
 rests-number t at n r e = rest-at t at (decimal n) r (numeral (drop at t) n r .0 e .0)
 
-pub rests-then : (w t : Bytes) (at : ℕ) → Rests t (numberThen w (drop at t))
-rests-then w t at n r e =
-    inv (numeralOf (drop at t)) (λ n r. giving (λ _. n) (strip w r)) n r e (λ m s p q. giving-inv (λ _. m) (strip w s) n r q (λ u k _.
-    rest-at t at (decimal m ++ w) r (numeral (drop at t) m s .0 p .0 ∙ ap (_++_ (decimal m)) (strip-sound w s r u k) ∙ sym (append-assoc (decimal m) w r))))
+pub rests-then : {A : Type 0} (f : Bytes → Reading A) (write : A → Bytes) (w t : Bytes) (at : ℕ) → ((a : A) (r : Bytes) → f (drop at t) ≡ got a r → drop at t ≡ write a ++ r) → Rests t (followed f w (drop at t))
+rests-then f write w t at sound a r e =
+    inv (f (drop at t)) (λ a r. giving (λ _. a) (strip w r)) a r e (λ m s p q. giving-inv (λ _. m) (strip w s) a r q (λ u k _.
+    rest-at t at (write m ++ w) r (sound m s p ∙ ap (_++_ (write m)) (strip-sound w s r u k) ∙ sym (append-assoc (write m) w r))))
 
 -- ---- what an answer tells
 
@@ -101,13 +101,13 @@ pub number-missing : (t : Bytes) (at : ℕ) → number.the-variants.Broken ≡ n
 unfolding numberAt heldNumberAt
 number-missing t at e = held-number-missing cap t at e
 
-pub then-found : (w t : Bytes) (at v n : ℕ) → number.the-variants.Value v n ≡ numberThenAt w t at → Met (min cap) t (numberThen w (drop at t)) v n
+pub then-found : (w t : Bytes) (at v n : ℕ) → number.the-variants.Value v n ≡ numberThenAt w t at → Met (min cap) t (followed numeralOf w (drop at t)) v n
 unfolding numberThenAt
-then-found w t at v n e = numbered t (numberThen w (drop at t)) v n (rests-then w t at) e
+then-found w t at v n e = numbered t (followed numeralOf w (drop at t)) v n (rests-then numeralOf decimal w t at (λ a r p. numeral (drop at t) a r .0 p .0)) e
 
-pub then-missing : (w t : Bytes) (at : ℕ) → number.the-variants.Broken ≡ numberThenAt w t at → numberThen w (drop at t) ≡ broken
+pub then-missing : (w t : Bytes) (at : ℕ) → number.the-variants.Broken ≡ numberThenAt w t at → followed numeralOf w (drop at t) ≡ broken
 unfolding numberThenAt
-then-missing w t at e = no-number t (numberThen w (drop at t)) e
+then-missing w t at e = no-number t (followed numeralOf w (drop at t)) e
 
 -- ---- an integer
 
@@ -127,3 +127,11 @@ integer-found t at v n e = integered t (integer .read (drop at t)) v n (rests-fo
 pub integer-missing : (t : Bytes) (at : ℕ) → whole.the-variants.Broken ≡ integerAt t at → integer .read (drop at t) ≡ broken
 unfolding integerAt
 integer-missing t at e = no-integer t (integer .read (drop at t)) e
+
+pub integer-then-found : (w t : Bytes) (at : ℕ) (v : ℤ) (n : ℕ) → whole.the-variants.Value v n ≡ integerThenAt w t at → Met held t (followed (integer .read) w (drop at t)) v n
+unfolding integerThenAt
+integer-then-found w t at v n e = integered t (followed (integer .read) w (drop at t)) v n (rests-then (integer .read) (integer .write) w t at (integer-exact .sound (drop at t))) e
+
+pub integer-then-missing : (w t : Bytes) (at : ℕ) → whole.the-variants.Broken ≡ integerThenAt w t at → followed (integer .read) w (drop at t) ≡ broken
+unfolding integerThenAt
+integer-then-missing w t at e = no-integer t (followed (integer .read) w (drop at t)) e

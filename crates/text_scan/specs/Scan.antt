@@ -67,12 +67,12 @@ numberIn = heldNumberIn cap
 unfoldable pub numberAt : Bytes → ℕ → number.Number
 numberAt t at = numberIn t (numeralOf (drop at t))
 
--- a number, and then a word
-abbrev pub numberThen : Bytes → Bytes → Reading ℕ
-numberThen w b = andThen (numeralOf b) (λ n r. giving (λ _. n) (strip w r))
+-- something, and then a word
+abbrev pub followed : {A : Type 0} → (Bytes → Reading A) → (word : Bytes) → Bytes → Reading A
+followed f w b = andThen (f b) (λ a r. giving (λ _. a) (strip w r))
 
 unfoldable pub numberThenAt : (word t : Bytes) → ℕ → number.Number
-numberThenAt word t at = numberIn t (numberThen word (drop at t))
+numberThenAt word t at = numberIn t (followed numeralOf word (drop at t))
 
 -- held on both sides of 0
 abbrev pub held : ℤ → ℤ
@@ -85,6 +85,9 @@ integerIn = placed (λ z. integer.the-variants.Value (held z)) integer.the-varia
 
 unfoldable pub integerAt : Bytes → ℕ → integer.Integer
 integerAt t at = integerIn t (form.integer .read (drop at t))
+
+unfoldable pub integerThenAt : (word t : Bytes) → ℕ → integer.Integer
+integerThenAt word t at = integerIn t (followed (form.integer .read) word (drop at t))
 
 -- the number after a minus, negated
 unfoldable pub minusAt : Bytes → ℕ → integer.Integer

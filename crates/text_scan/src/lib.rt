@@ -11,6 +11,7 @@ ghost use Rattle.text_scan.specs.Scan.{
   numberAt,
   numberThenAt,
   integerAt,
+  integerThenAt,
   minusAt,
 };
 
@@ -152,6 +153,20 @@ pub fn integer_at(text: &[u8], at: usize) -> Integer
             Found::Nothing => Integer::Broken,
         },
     }
+}
+
+// An integer, and then a word.
+pub fn integer_then(text: &[u8], at: usize, word: &[u8]) -> Integer
+    requires { ⌜ at ≤ length (now text) ⌝ }
+    ensures { λ r. ⌜ r ≡ integerThenAt (now (word .entry)) (now (text .entry)) at ⌝ }
+{
+    let Integer::Value(value, end) = integer_at(text, at) else {
+        return Integer::Broken;
+    };
+    let Found::At(next) = word_at(text, end, word) else {
+        return Integer::Broken;
+    };
+    Integer::Value(value, next)
 }
 
 // What follows a minus.

@@ -31,6 +31,7 @@ struct Numbers {
     c: u64,
     d: u64,
     e: u64,
+    f: u64,
 }
 
 fn past(at: usize) -> usize {
@@ -47,12 +48,14 @@ fn numbers_at(table: &[u8], at: usize) -> Numbers {
     let c = numeral_at(table, behind(b));
     let d = numeral_at(table, behind(c));
     let e = numeral_at(table, behind(d));
+    let f = numeral_at(table, behind(e));
     Numbers {
         a: a.value,
         b: b.value,
         c: c.value,
         d: d.value,
         e: e.value,
+        f: f.value,
     }
 }
 
@@ -99,11 +102,13 @@ fn usual() -> Pattern {
     reading.pattern
 }
 
-fn test(r: Numbers, bound: i32) -> Pattern {
+fn test(r: Numbers, bound: i32, band: bool, high: i32) -> Pattern {
     let t = Test {
         sign: sign(r.c),
         channel: low_byte(r.d),
         bound,
+        band,
+        high,
     };
     with_test(usual(), r.a as usize, r.b as usize, t)
 }
@@ -151,8 +156,11 @@ fn altered(mark: u8, r: Numbers) -> Pattern {
         b'h' => header(r),
         b'c' => with_counts(bare(), low_byte(r.a), low_byte(r.b)),
         b'p' => with_place(usual(), r.a as usize, kind(r.b), low_byte(r.c)),
-        b't' => test(r, bound(r.e)),
-        b'm' => test(r, below_zero(r.e)),
+        b't' => test(r, bound(r.e), false, 0),
+        b'm' => test(r, below_zero(r.e), false, 0),
+        b'w' => test(r, bound(r.e), false, bound(r.f)),
+        b'b' => test(r, bound(r.e), true, bound(r.f)),
+        b'n' => test(r, below_zero(r.e), true, below_zero(r.f)),
         b'e' => edge(r),
         b'g' => guard(r),
         b'r' => with_reset(usual(), r.a as usize, r.b as usize),

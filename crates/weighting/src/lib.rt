@@ -38,7 +38,7 @@ pub fn combine(w: Weighing, a: i64, b: i64) -> i64
     }
 }
 
-fn lesser(a: i64, b: i64) -> i64
+pub fn lesser(a: i64, b: i64) -> i64
     ensures { λ r. ⌜ r ≡ minZ a b ⌝ }
 {
     if a <= b { a } else { b }

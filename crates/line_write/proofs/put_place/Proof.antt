@@ -1,4 +1,10 @@
 -- A place's line, part by part.
+use mathlib.Core.Path.{_≡_, refl, ap}
+use mathlib.Core.List.{List, [], _∷_, _++_, map}
+use Rattle.pattern.specs.declared.Test.{Test}
+use Rattle.pattern.specs.InUse.{testsOf}
+use Rattle.pattern_text.specs.Form.{writeMany}
+use Rattle.pattern_text.specs.Line.{testLineOf, test}
 use Rattle.pattern_text.specs.Form.{_▸_, _⨾_, _◂_, mapped, oneOf, many}
 use Rattle.pattern_text.specs.Line.{kind, placeLine, renderLine}
 use Rattle.pattern_text.specs.Text.{placeLineOf, ended}
@@ -6,6 +12,12 @@ use Rattle.text_put.proofs.PutLaws.{put-then}
 use borrow.Author.Needs.{needs}
 use Rattle.line_write.proofs.put_place.Statement.{statement}
 use Rattle.line_write.proofs.put_place.Tie as tie
+
+-- the tests as a line has them
+write-mapped : (ts : List Test) → writeMany (λ t. test .write (testLineOf t)) ts ≡ writeMany (test .write) (map testLineOf ts)
+unfolding writeMany
+write-mapped [] = refl
+write-mapped (t ∷ ts) = ap (_++_ (test .write (testLineOf t))) (write-mapped ts)
 
 slice-aggregate-put-word : tie.Need-slice-aggregate-put-word
 slice-aggregate-put-word c = search needs
@@ -36,8 +48,9 @@ returns c =
     let tests = close .before .before .before .before in
     let kind = tests .before .before .before .before in
     let first = kind .before .before .before .before in
+    let l = first .before .before .before .before .args .l in
     put-then
-    (put-then (put-then (first .put-word .ensures) (kind .put-kind .ensures)) (put-then (tests .put-tests .ensures) (close .put-byte .ensures)))
+    (put-then (put-then (first .put-word .ensures) (kind .put-kind .ensures)) (put-then (rw (write-mapped (testsOf l)) at (tests .put-tests .ensures)) (close .put-byte .ensures)))
     (feed .put-byte2 .ensures)
 
 pub put-place-spec : {M : Type 1} → statement M

@@ -1,52 +1,51 @@
--- A test, part by part.
-use Rattle.integers.proofs.Casts.{widen-fits, widen-back}
-use Rattle.pattern_text.specs.Form.{_⨾_, _◂_, mapped, oneOf, number, integer}
-use Rattle.pattern_text.specs.Line.{sign, test}
-use Rattle.text_put.proofs.PutLaws.{put-then}
+-- A test of either form.
+use mir.Syntax.{w32}
+use mir.Val.{SFits}
+use mir.Facts.{toZ-ofZ}
+use Rattle.pattern_text.specs.Form.{either, mapped}
+use Rattle.pattern_text.specs.Line.{test}
 use borrow.Author.Needs.{needs}
 use Rattle.line_write.proofs.put_test.Statement.{statement}
 use Rattle.line_write.proofs.put_test.Tie as tie
 
-put-sign-requires : tie.Need-put-sign-requires
-put-sign-requires c κs = search needs
+put-band-requires : tie.Need-put-band-requires
+put-band-requires c κs = search needs
 
-cast-put-number-and : tie.Need-cast-put-number-and
-cast-put-number-and c = search needs
-
-put-number-and-requires : tie.Need-put-number-and-requires
-put-number-and-requires c κs = search needs
-
-cast-put-integer : tie.Need-cast-put-integer
-cast-put-integer c = widen-fits (c .before .before .before .before .before .before .before .before .before .before .before .before .before .args .t .bound) (record { sfits = c .struct-told .given .1 .1 .0 .1 })
-
-put-integer-requires : tie.Need-put-integer-requires
-put-integer-requires c κs = search needs
-
-put-byte-requires : tie.Need-put-byte-requires
-put-byte-requires c κs = search needs
+put-side-requires : tie.Need-put-side-requires
+put-side-requires c κs = search needs
 
 same-length : tie.Need-same-length
 same-length c = search needs
 
 returns : tie.Need-returns
-unfolding test mapped _⨾_ _◂_ sign oneOf number integer
+unfolding test mapped either
 returns c =
-    let close = c .before .before in
-    let bound = close .before .before .before .before in
-    let channel = bound .before .before .before .before .before .before in
-    let first = channel .before .before .before .before .before in
-    let back = widen-back (bound .before .before .before .before .before .before .before .before .before .before .before .before .before .before .args .t .bound) (record { sfits = bound .before .struct-told .given .1 .1 .0 .1 }) in
-    put-then (first .put-sign .ensures) (put-then (channel .put-number-and .ensures) (put-then (rw back at (bound .put-integer .ensures)) (close .put-byte .ensures)))
+    let s = c .before .before .before .before .before .before .before .before in
+    let t = s .args .t in
+    let b-fits : SFits w32 (t .bound) = record { sfits = s .good .1 .1 .0 .1 .1 .1 .1 .0 .1 } in
+    let h-fits : SFits w32 (t .high) = record { sfits = s .good .1 .1 .0 .1 .1 .1 .1 .1 .1 .0 .1 } in
+    let e = simp (toZ-ofZ b-fits, toZ-ofZ h-fits) at (c .before .before .put-band .ensures) in
+    rw (c .before .before .before .before .before .before .if1 .taken) e
+
+same-length-2 : tie.Need-same-length-2
+same-length-2 c = search needs
+
+returns-2 : tie.Need-returns-2
+unfolding test mapped either
+returns-2 c =
+    let s = c .before .before .before .before .before .before .before in
+    let t = s .args .t in
+    let b-fits : SFits w32 (t .bound) = record { sfits = s .good .1 .1 .0 .1 .1 .1 .1 .0 .1 } in
+    let e = simp (toZ-ofZ b-fits) at (c .before .before .put-side .ensures) in
+    rw (c .before .before .before .before .before .if1 .left) e
 
 pub put-test-spec : {M : Type 1} → statement M
 put-test-spec =
     tie.close
     (tie.spec
-    put-sign-requires
-    cast-put-number-and
-    put-number-and-requires
-    cast-put-integer
-    put-integer-requires
-    put-byte-requires
+    put-band-requires
+    put-side-requires
     same-length
-    returns)
+    returns
+    same-length-2
+    returns-2)

@@ -1,7 +1,7 @@
 -- `number_then` meets its contract.
 use borrow.Author.Needs.{needs}
 use mathlib.Core.Path.{sym, _∙_}
-use Rattle.text_scan.proofs.Composed.{number-within, then-no-number, then-no-word, then-is}
+use Rattle.text_scan.proofs.Composed.{number-within, number-then-no-number, number-then-no-word, number-then-is}
 use Rattle.text_scan.proofs.number_then.Statement.{statement}
 use Rattle.text_scan.proofs.number_then.Tie as tie
 
@@ -15,7 +15,7 @@ enum-told : tie.Need-enum-told
 enum-told c = search needs
 
 returns : tie.Need-returns
-returns c = then-no-number _ _ _ (sym (c .enum-told .given .1) ∙ c .before .before .number-at .ensures)
+returns c = number-then-no-number _ _ _ (sym (c .enum-told .given .1) ∙ c .before .before .number-at .ensures)
 
 word-at-requires : tie.Need-word-at-requires
 word-at-requires c κs = number-within _ _ _ _ (sym (c .before .value .given .1) ∙ c .before .before .before .number-at .ensures)
@@ -29,12 +29,12 @@ enum-told-2 c = search needs
 returns-2 : tie.Need-returns-2
 returns-2 c =
     let v = c .before .before .before .before in
-    then-no-word _ _ _ _ _ (sym (v .value .given .1) ∙ v .before .before .number-at .ensures) (sym (c .enum-told2 .given .1) ∙ c .before .before .word-at .ensures)
+    number-then-no-word _ _ _ _ _ (sym (v .value .given .1) ∙ v .before .before .number-at .ensures) (sym (c .enum-told2 .given .1) ∙ c .before .before .word-at .ensures)
 
 returns-3 : tie.Need-returns-3
 returns-3 c =
     let v = c .before .before .before .before .before in
-    then-is _ _ _ _ _ _ (sym (v .value .given .1) ∙ v .before .before .number-at .ensures) (sym (c .before .next .given .1) ∙ c .before .before .before .word-at .ensures)
+    number-then-is _ _ _ _ _ _ (sym (v .value .given .1) ∙ v .before .before .number-at .ensures) (sym (c .before .next .given .1) ∙ c .before .before .before .word-at .ensures)
 
 pub number-then-spec : {M : Type 1} → statement M
 number-then-spec =

@@ -1,68 +1,37 @@
-use mir.Syntax.{w32}
-use mir.Val.{SFits}
-use Rattle.integers.proofs.Casts.{widen-fits}
-use Rattle.pattern.proofs.DistanceLaws.{above-fits, above-is, below-fits, below-is}
+use mathlib.Core.Path.{_≡_, _∙_}
+use mir.Syntax.{w32, w64}
+use mir.Val.{SFits, toZ, ofZ}
+use mir.Facts.{toZ-ofZ}
+use Rattle.pattern.specs.Distance.{distanceInside, distanceFrom}
 use borrow.Author.Needs.{needs}
 use Rattle.pattern.proofs.distance.distance.Statement.{statement}
 use Rattle.pattern.proofs.distance.distance.Tie as tie
 
--- the bound is in range
-b-fits : (c : tie.After-struct-told) → SFits w32 (c .before .before .args .t .bound)
-b-fits c = record { sfits = c .struct-told .given .1 .1 .0 .1 }
+band-distance-requires : tie.Need-band-distance-requires
+band-distance-requires c κs = search needs
 
-cast-above : tie.Need-cast-above
-cast-above c = widen-fits (c .args .value) (c .fits .value)
-
-cast-above-2 : tie.Need-cast-above-2
-cast-above-2 c = widen-fits (c .before .before .args .t .bound) (b-fits c)
-
-sub-above : tie.Need-sub-above
-sub-above c = above-fits (c .before .before .args .value) (c .before .before .args .t .bound) (c .before .before .fits .value) (b-fits c)
-
-enum-told : tie.Need-enum-told
-enum-told c = search needs
-
-sub-result : tie.Need-sub-result
-sub-result c = below-fits (c .before .before .before .before .args .value) (c .before .before .before .before .args .t .bound) (c .before .before .before .before .fits .value) (b-fits (c .before .before))
-
-enum-told-2 : tie.Need-enum-told-2
-enum-told-2 c = search needs
-
-sub-result-2 : tie.Need-sub-result-2
-sub-result-2 c = below-fits (c .before .before .before .before .args .value) (c .before .before .before .before .args .t .bound) (c .before .before .before .before .fits .value) (b-fits (c .before .before))
-
-enum-told-3 : tie.Need-enum-told-3
-enum-told-3 c = search needs
-
-enum-told-4 : tie.Need-enum-told-4
-enum-told-4 c = search needs
+side-distance-requires : tie.Need-side-distance-requires
+side-distance-requires c κs = search needs
 
 returns : tie.Need-returns
-returns c = rw (c .enum-told .given .1) (below-is (c .before .before .before .before .args .value) (c .before .before .before .before .args .t .bound) (c .before .before .before .before .fits .value) (b-fits (c .before .before)))
+returns c =
+    let a = c .before .before .before .before in
+    let t = a .args .t in
+    let b-fits : SFits w32 (t .bound) = record { sfits = a .good .0 .1 .1 .1 .1 .0 .1 } in
+    let h-fits : SFits w32 (t .high) = record { sfits = a .good .0 .1 .1 .1 .1 .1 .1 .0 .1 } in
+    let e : c .band-distance .result ≡ distanceInside (t .bound) (t .high) (a .args .value) = simp (toZ-ofZ b-fits, toZ-ofZ h-fits, toZ-ofZ (a .fits .value)) at (c .band-distance .ensures) in
+    let r : toZ w64 (ofZ w64 (c .band-distance .result)) ≡ distanceInside (t .bound) (t .high) (a .args .value) = toZ-ofZ {w = w64} (record { sfits = c .band-distance .ok }) ∙ e in
+    rw (c .before .before .before .if1 .taken) r
 
 returns-2 : tie.Need-returns-2
-returns-2 c = rw (c .enum-told2 .given .1) (below-is (c .before .before .before .before .args .value) (c .before .before .before .before .args .t .bound) (c .before .before .before .before .fits .value) (b-fits (c .before .before)))
-
-returns-3 : tie.Need-returns-3
-returns-3 c = rw (c .enum-told3 .given .1) (above-is (c .before .before .before .before .args .value) (c .before .before .before .before .args .t .bound) (c .before .before .before .before .fits .value) (b-fits (c .before .before)))
-
-returns-4 : tie.Need-returns-4
-returns-4 c = rw (c .enum-told4 .given .1) (above-is (c .before .before .before .before .args .value) (c .before .before .before .before .args .t .bound) (c .before .before .before .before .fits .value) (b-fits (c .before .before)))
+returns-2 c =
+    let a = c .before .before .before in
+    let t = a .args .t in
+    let b-fits : SFits w32 (t .bound) = record { sfits = a .good .0 .1 .1 .1 .1 .0 .1 } in
+    let e : c .side-distance .result ≡ distanceFrom (t .sign) (t .bound) (a .args .value) = simp (toZ-ofZ b-fits, toZ-ofZ (a .fits .value)) at (c .side-distance .ensures) in
+    let r : toZ w64 (ofZ w64 (c .side-distance .result)) ≡ distanceFrom (t .sign) (t .bound) (a .args .value) = toZ-ofZ {w = w64} (record { sfits = c .side-distance .ok }) ∙ e in
+    rw (c .before .before .if1 .left) r
 
 pub distance-spec : {M : Type 1} → statement M
 distance-spec =
-    tie.close
-    (tie.spec
-    cast-above
-    cast-above-2
-    sub-above
-    enum-told
-    sub-result
-    enum-told-2
-    sub-result-2
-    enum-told-3
-    enum-told-4
-    returns
-    returns-2
-    returns-3
-    returns-4)
+    tie.close (tie.spec band-distance-requires side-distance-requires returns returns-2)

@@ -2,15 +2,14 @@
 use native.Mathlib.Omega.{arith}
 use Prim.Native.Nat.{_≤_, _-_}
 use mathlib.Core.Path.{_≡_, _∙_}
-use mathlib.Core.Bool.{_&&_}
 use lib.ListN.{length, length-map}
-use Rattle.pattern.specs.Sound.{testInRange, testKnown, testUnused, placeSound}
+use Rattle.pattern.specs.Sound.{testUnused, testSound, placeSound}
 use Rattle.pattern.proofs.SlotLaws.{fineTo, fine-none, fine-more, fine-all}
 use Rattle.pattern.proofs.slots.place_sound.Statement.{statement}
 use Rattle.pattern.proofs.slots.place_sound.Tie as tie
 
 abbrev Inv-loop : tie.InvT-loop
-Inv-loop channels l n ok₀ i₀ ok i = (i ≤ 4) × (ok ≡ fineTo (λ t. testInRange t && testKnown channels t) testUnused 4 n i (l .tests))
+Inv-loop channels l n ok₀ i₀ ok i = (i ≤ 4) × (ok ≡ fineTo (testSound channels) testUnused 4 n i (l .tests))
 
 abbrev μ-loop : tie.MeasureT-loop
 μ-loop channels l n ok₀ i₀ ok i = 4 - i
@@ -23,7 +22,7 @@ cast-n : tie.Need-cast-n Inv-loop μ-loop
 cast-n c = omega arith
 
 loop-holds : tie.Need-loop-holds Inv-loop μ-loop
-loop-holds c = (omega arith, fine-none (λ t. testInRange t && testKnown (c .args .channels) t) testUnused 4 (c .args .t1 .count) (c .args .t1 .tests))
+loop-holds c = (omega arith, fine-none (testSound (c .args .channels)) testUnused 4 (c .args .t1 .count) (c .args .t1 .tests))
 
 mul-t : tie.Need-mul-t Inv-loop μ-loop
 mul-t c = omega arith
@@ -51,7 +50,7 @@ loop-again c =
     let l = c .before .before .before .before .before .loop in
     let a = c .before .before .before .before .before .before .args in
     let e = four (c .before .before .before .before .before .before) in
-    (omega arith, rw (l .inv .1, c .pick .ensures, c .before .test-unused .ensures, c .before .before .test-sound .ensures) (fine-more (λ t. testInRange t && testKnown (a .channels) t) testUnused 4 (a .t1 .count) (a .t1 .tests) _ (l .i) (omega arith)))
+    (omega arith, rw (l .inv .1, c .pick .ensures, c .before .test-unused .ensures, c .before .before .test-sound .ensures) (fine-more (testSound (a .channels)) testUnused 4 (a .t1 .count) (a .t1 .tests) _ (l .i) (omega arith)))
 
 returns : tie.Need-returns Inv-loop μ-loop
 unfolding placeSound
@@ -59,7 +58,7 @@ returns c =
     let l = c .before .loop in
     let a = c .before .before .args in
     let i-is : l .i ≡ 4 = omega arith in
-    l .inv .1 ∙ rw i-is (fine-all (λ t. testInRange t && testKnown (a .channels) t) testUnused 4 (a .t1 .count) (a .t1 .tests) (four (c .before .before)))
+    l .inv .1 ∙ rw i-is (fine-all (testSound (a .channels)) testUnused 4 (a .t1 .count) (a .t1 .tests) (four (c .before .before)))
 
 pub place-sound-spec : {M : Type 1} → statement M
 place-sound-spec =

@@ -1,17 +1,17 @@
-use mir.Syntax.{w32}
-use mir.Val.{SFits}
-use mir.Facts.{toZ-ofZ}
-use Rattle.pattern.specs.Sound.{testInRange, testKnown}
-use Rattle.pattern.proofs.BoundLaws.{sized}
+use Rattle.pattern.specs.Sound.{testKnown, testSound}
+use borrow.Author.Needs.{needs}
 use Rattle.pattern.proofs.slots.test_sound.Statement.{statement}
 use Rattle.pattern.proofs.slots.test_sound.Tie as tie
 
+test-in-range-requires : tie.Need-test-in-range-requires
+test-in-range-requires c κs = search needs
+
+unsaid-zero-requires : tie.Need-unsaid-zero-requires
+unsaid-zero-requires c κs = search needs
+
 returns : tie.Need-returns
-unfolding testInRange testKnown
-returns c =
-    let t = c .before .before .before .before .before .args .t in
-    let fits : SFits w32 (t .bound) = record { sfits = c .before .before .before .struct-told .given .1 .1 .0 .1 } in
-    rw (toZ-ofZ fits, sized 999999 (t .bound))
+unfolding testSound testKnown
+returns c = rw (c .before .before .test-in-range .ensures, c .unsaid-zero .ensures)
 
 pub test-sound-spec : {M : Type 1} → statement M
-test-sound-spec = tie.close (tie.spec returns)
+test-sound-spec = tie.close (tie.spec test-in-range-requires unsaid-zero-requires returns)

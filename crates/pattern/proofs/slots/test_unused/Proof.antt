@@ -1,3 +1,5 @@
+use mir.Syntax.{w32}
+use mir.Val.{SFits}
 use Rattle.pattern.specs.Sound.{testUnused}
 use Rattle.pattern.proofs.BoundLaws.{null-bits}
 use borrow.Author.Needs.{needs}
@@ -10,8 +12,11 @@ is-less-requires c κs = search needs
 returns : tie.Need-returns
 unfolding testUnused
 returns c =
-    let t = c .before .before .before .before .args .t in
-    rw (c .before .before .before .is-less .ensures, null-bits (t .bound) (record { sfits = c .struct-told .given .1 .1 .0 .1 }))
+    let a = c .before .before .before .before .before .before .before in
+    let t = a .args .t in
+    let b-fits : SFits w32 (t .bound) = record { sfits = a .good .0 .1 .1 .1 .1 .0 .1 } in
+    let h-fits : SFits w32 (t .high) = record { sfits = a .good .0 .1 .1 .1 .1 .1 .1 .0 .1 } in
+    rw (c .before .before .before .before .before .before .is-less .ensures, null-bits (t .bound) b-fits, null-bits (t .high) h-fits)
 
 pub test-unused-spec : {M : Type 1} → statement M
 test-unused-spec = tie.close (tie.spec is-less-requires returns)
