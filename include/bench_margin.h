@@ -17,8 +17,8 @@
  *     (pattern margin 1 1 1 4)          margin or sum; channels, 1 to 8; clocks, 0 to 4; the window's low and its high in
  *                                       ticks, 1 to 4095 and low to 4095
  *     (place start (< 0 15))            1 to 16 places: start, plain, end or both (start and end), then 0 to 4 tests: a sign
- *     (place plain (> 0 5))             <, <=, > or >=, a channel, a bound from -1000000 to 1000000; or a band, as
- *     (place end)                       (in 0 -5 5): a channel, a low and a high in a bound's range, low not above high
+ *     (place plain (in 0 5 45))         <, <=, > or >=, a channel, a bound from -1000000 to 1000000; or a band: in, a channel,
+ *     (place end)                       a low and a high, each in a bound's range, the low not above the high
  *     (edge 0 1 (< 0 3) (reset 0))      0 to 32 edges: from place, to place, then 0 to 4 guards: a sign, a clock, a bound from
  *     (edge 1 2 (<= 0 2))               0 to 1000; then the clocks that it resets, rising, or no such bracket
  *

@@ -12,7 +12,7 @@ use Rattle.pattern.specs.declared.Test.{Test}
 use Rattle.pattern.specs.Sound.{noTest, boundInRange, bandInRange, testInRange, testKnown}
 use Rattle.pattern_text.specs.Bytes.{Bytes, Reading, got, broken}
 use Rattle.pattern_text.specs.Form.{many}
-use Rattle.pattern_text.specs.Line.{TestLine, testOf, test}
+use Rattle.pattern_text.specs.Line.{RawTest, testOf, test}
 use Rattle.pattern_text.specs.Text.{pad}
 use Rattle.pattern_text.proofs.LineLaws.{test-exact, test-long}
 use Rattle.text_scan.specs.Scan.{held, endOf}
@@ -62,7 +62,7 @@ module _ (channels : ℕ) (few : channels ≤ 255) where
 
 -- the tests that the lines say, one after the other
 module _ (channels : ℕ) (few : channels ≤ 255) where
-  line-more : (xs : List TestLine) (x : TestLine) → addTest channels (gatheredTests channels (map testOf xs)) (heldTest (testOf x)) ≡ gatheredTests channels (map testOf (xs ++ (x ∷ [])))
+  line-more : (xs : List RawTest) (x : RawTest) → addTest channels (gatheredTests channels (map testOf xs)) (heldTest (testOf x)) ≡ gatheredTests channels (map testOf (xs ++ (x ∷ [])))
   line-more xs x = one-more channels few (map testOf xs) (testOf x) ∙ ap (gatheredTests channels) (sym (map-append testOf xs (x ∷ [])))
 
 -- ---- the walk over the tests
@@ -84,7 +84,7 @@ module _ (channels : ℕ) (t : Bytes) where
   unfolding testsAt testsFrom walked gatheredTests pad
   tests-start few at = go (many test .read (drop at t))
     where
-      go : (x : Reading (List TestLine)) → testsIn channels t x ≡ back (arrived noTests t (gather (λ g x. addTest channels g (heldTest (testOf x))) noTests x))
+      go : (x : Reading (List RawTest)) → testsIn channels t x ≡ back (arrived noTests t (gather (λ g x. addTest channels g (heldTest (testOf x))) noTests x))
       go (got xs r) = ap (λ g. record { tests = g; next = endOf t r; more = false }) (sym (all-of (λ g x. addTest channels g (heldTest (testOf x))) (λ ys. gatheredTests channels (map testOf ys)) (line-more channels few) [] xs))
       go broken = refl
 
@@ -96,7 +96,7 @@ module _ (channels : ℕ) (t : Bytes) where
   unfolding testsFrom
   tests-same s r h = ap back (h .same)
 
-  shorter : (b : Bytes) (a : TestLine) (r : Bytes) → test .read b ≡ got a r → length r < length b
+  shorter : (b : Bytes) (a : RawTest) (r : Bytes) → test .read b ≡ got a r → length r < length b
   shorter = shrinks test-exact test-long
 
   pub tests-turn : (s : TestsRead) → s .more ≡ true → s .next ≤ length t → Onward s (testTurn channels t s)

@@ -11,7 +11,7 @@ use Rattle.pattern.specs.Slots.{all}
 use Rattle.pattern.specs.Sound.{noTest, noGuard, testInRange, testKnown, guardInRange, guardKnown}
 use Rattle.pattern_text.specs.Bytes.{Bytes, Reading, got, broken}
 use Rattle.pattern_text.specs.Form.{many}
-use Rattle.pattern_text.specs.Line.{TestLine, testOf, test, guard}
+use Rattle.pattern_text.specs.Line.{RawTest, testOf, test, guard}
 use Rattle.pattern_text.specs.Text.{pad}
 use Rattle.text_scan.specs.Scan.{endOf}
 use Rattle.line_lists.specs.declared.Tests.{Tests}
@@ -54,7 +54,7 @@ testTurned channels s testread.the-variants.Broken = record { tests = s .tests; 
 unfoldable pub testTurn : (channels : ℕ) → Bytes → TestsRead → TestsRead
 testTurn channels t s = testTurned channels s (testAt t (s .next))
 
-abbrev pub testsIn : (channels : ℕ) → Bytes → Reading (List TestLine) → TestsRead
+abbrev pub testsIn : (channels : ℕ) → Bytes → Reading (List RawTest) → TestsRead
 testsIn channels t (got xs r) = record { tests = gatheredTests channels (map testOf xs); next = endOf t r; more = false }
 testsIn channels t broken = record { tests = noTests; next = 0; more = false }
 

@@ -45,8 +45,8 @@ pub fn no_tests() -> Tests
     let t = Test {
         sign: Sign::Less,
         channel: 0,
-        bound: 0,
         band: false,
+        bound: 0,
         high: 0,
     };
     Tests {

@@ -9,11 +9,10 @@ use mir.Syntax.{w32}
 use mir.Val.{toZ, ofZ}
 use Rattle.pattern.specs.declared.Sign.{Sign}
 use Rattle.pattern.specs.declared.Test.{Test}
-use Rattle.pattern.specs.Sound.{sideOn, bandOn}
+use Rattle.pattern.specs.Sound.{bounded, banded}
 use Rattle.pattern_text.specs.Bytes.{Bytes, bytes, Reading, got, broken}
 use Rattle.pattern_text.specs.Form.{giving, orElse, _▸_, _◂_, _⨾_, either, mapped, number}
-use Rattle.pattern_text.specs.Line as line
-use Rattle.pattern_text.specs.Line.{side, inside, sideTest, bandTest, test, guard}
+use Rattle.pattern_text.specs.Line.{sideOf, insideOf, ofParts, sideTest, bandTest, test, guard}
 use Rattle.text_scan.specs.declared.Found as found
 use Rattle.text_scan.specs.declared.Number as numberread
 use Rattle.text_scan.specs.declared.Integer as integerread
@@ -53,14 +52,14 @@ module _ (t : Bytes) (at : ℕ) where
       unfolding sideAt sideTest _⨾_ _◂_ number
       side-no-bound e = rw (sign-found t at s n sign .is, then-found (bytes " ") t n c m channel .is, integer-then-missing (bytes ")") t m e) refl
 
-      pub side-is : (z : ℤ) (k x : ℕ) → integerread.the-variants.Value z k ≡ integerThenAt (bytes ")") t m → x ≡ min 255 c → testread.the-variants.Value (sideOn s x (toZ w32 (ofZ w32 z))) k ≡ sideAt t at
+      pub side-is : (z : ℤ) (k x : ℕ) → integerread.the-variants.Value z k ≡ integerThenAt (bytes ")") t m → x ≡ min 255 c → testread.the-variants.Value (bounded s x (toZ w32 (ofZ w32 z))) k ≡ sideAt t at
       unfolding sideAt sideTest _⨾_ _◂_ number
       side-is z k x e i255 =
           let C = then-found (bytes " ") t n c m channel in
           let Z = integer-then-found (bytes ")") t m z k e in
           let small : x ≡ min 255 (C .raw) = omega (arith, C .made) in
           rw (sign-found t at s n sign .is, C .is, Z .is, end-drop t k (Z .within))
-          (λ i. testread.the-variants.Value (sideOn (sign-found t at s n sign .made i) (small i) ((held-back z (Z .raw) (Z .made) ∙ Z .made) i)) k)
+          (λ i. testread.the-variants.Value (bounded (sign-found t at s n sign .made i) (small i) ((held-back z (Z .raw) (Z .made) ∙ Z .made) i)) k)
 
 -- ---- a band
 
@@ -84,7 +83,7 @@ module _ (t : Bytes) (at : ℕ) where
         unfolding bandAt bandTest _▸_ _⨾_ _◂_ number
         band-no-high e = rw (word-found (bytes " (in ") t at n begins .is, then-found (bytes " ") t n c m channel .is, integer-then-found (bytes " ") t m z l low .is, integer-then-missing (bytes ")") t l e) refl
 
-        pub band-is : (y : ℤ) (k x : ℕ) → integerread.the-variants.Value y k ≡ integerThenAt (bytes ")") t l → x ≡ min 255 c → testread.the-variants.Value (bandOn x (toZ w32 (ofZ w32 z)) (toZ w32 (ofZ w32 y))) k ≡ bandAt t at
+        pub band-is : (y : ℤ) (k x : ℕ) → integerread.the-variants.Value y k ≡ integerThenAt (bytes ")") t l → x ≡ min 255 c → testread.the-variants.Value (banded x (toZ w32 (ofZ w32 z)) (toZ w32 (ofZ w32 y))) k ≡ bandAt t at
         unfolding bandAt bandTest _▸_ _⨾_ _◂_ number
         band-is y k x e i255 =
             let C = then-found (bytes " ") t n c m channel in
@@ -92,7 +91,7 @@ module _ (t : Bytes) (at : ℕ) where
             let Y = integer-then-found (bytes ")") t l y k e in
             let small : x ≡ min 255 (C .raw) = omega (arith, C .made) in
             rw (word-found (bytes " (in ") t at n begins .is, C .is, Z .is, Y .is, end-drop t k (Y .within))
-            (λ i. testread.the-variants.Value (bandOn (small i) ((held-back z (Z .raw) (Z .made) ∙ Z .made) i) ((held-back y (Y .raw) (Y .made) ∙ Y .made) i)) k)
+            (λ i. testread.the-variants.Value (banded (small i) ((held-back z (Z .raw) (Z .made) ∙ Z .made) i) ((held-back y (Y .raw) (Y .made) ∙ Y .made) i)) k)
 
 -- ---- either
 
@@ -101,8 +100,8 @@ module _ (t : Bytes) (at : ℕ) where
   unfolding sideAt testAt test mapped either
   side-first y n e = go (sideTest .read (drop at t)) e
     where
-      go : (r : Reading (Sign × (ℕ × ℤ))) → testread.the-variants.Value y n ≡ testIn t (giving (λ (s, (c, b)). side s c b) r)
-          → testread.the-variants.Value y n ≡ testIn t (giving line.testIn (orElse (giving inl r) (giving inr (bandTest .read (drop at t)))))
+      go : (r : Reading (Sign × (ℕ × ℤ))) → testread.the-variants.Value y n ≡ testIn t (giving sideOf r)
+          → testread.the-variants.Value y n ≡ testIn t (giving ofParts (orElse (giving inl r) (giving inr (bandTest .read (drop at t)))))
       go (got a r) e = e
       go broken e = absurd (let z : _≡_ {A = ℕ} 0 1 = cc in omega arith)
 
@@ -110,8 +109,8 @@ module _ (t : Bytes) (at : ℕ) where
   unfolding sideAt bandAt testAt test mapped either
   band-next r e h = go (sideTest .read (drop at t)) (bandTest .read (drop at t)) e h
     where
-      go : (q : Reading (Sign × (ℕ × ℤ))) (w : Reading (ℕ × (ℤ × ℤ))) → testread.the-variants.Broken ≡ testIn t (giving (λ (s, (c, b)). side s c b) q)
-          → r ≡ testIn t (giving (λ (c, (l, h)). inside c l h) w) → r ≡ testIn t (giving line.testIn (orElse (giving inl q) (giving inr w)))
+      go : (q : Reading (Sign × (ℕ × ℤ))) (w : Reading (ℕ × (ℤ × ℤ))) → testread.the-variants.Broken ≡ testIn t (giving sideOf q)
+          → r ≡ testIn t (giving insideOf w) → r ≡ testIn t (giving ofParts (orElse (giving inl q) (giving inr w)))
       go (got a u) w e h = absurd (let z : _≡_ {A = ℕ} 0 1 = cc in omega arith)
       go broken (got a u) e h = h
       go broken broken e h = h

@@ -9,7 +9,7 @@ use Rattle.pattern.specs.declared.Test.{Test}
 use Rattle.pattern.specs.declared.Guard.{Guard}
 use Rattle.pattern_text.specs.Bytes.{Bytes, Reading}
 use Rattle.pattern_text.specs.Form.{giving, _▸_, number}
-use Rattle.pattern_text.specs.Line.{TestLine, side, inside, testOf, sign, kind, weighing, sideTest, bandTest, test, guard}
+use Rattle.pattern_text.specs.Line.{RawTest, sideOf, insideOf, testOf, sign, kind, weighing, sideTest, bandTest, test, guard}
 use Rattle.text_scan.specs.declared.Number.{Number}
 use Rattle.text_scan.specs.Scan.{placed, held, numberIn}
 use Rattle.line_parts.specs.declared.SignRead as signread
@@ -40,22 +40,22 @@ weighingAt t at = weighingIn t (weighing .read (drop at t))
 
 -- ---- a test and a guard
 
--- an index is held at 255, above every index; a guard's bound at 65,535
+-- an index is held at 255, above every index; a guard's bound at 65,535; a test's bound and high as every integer
 abbrev pub heldTest : Test → Test
-heldTest x = record { sign = x .sign; channel = min 255 (x .channel); bound = held (x .bound); band = x .band; high = held (x .high) }
+heldTest x = record { sign = x .sign; channel = min 255 (x .channel); band = x .band; bound = held (x .bound); high = held (x .high) }
 
 abbrev pub heldGuard : Guard → Guard
 heldGuard x = record { sign = x .sign; clock = min 255 (x .clock); bound = min 65_535 (x .bound) }
 
-abbrev pub testIn : Bytes → Reading TestLine → testread.TestRead
+abbrev pub testIn : Bytes → Reading RawTest → testread.TestRead
 testIn = placed (λ x. testread.the-variants.Value (heldTest (testOf x))) testread.the-variants.Broken
 
 -- the one form and the other
 unfoldable pub sideAt : Bytes → ℕ → testread.TestRead
-sideAt t at = testIn t (giving (λ (s, (c, b)). side s c b) (sideTest .read (drop at t)))
+sideAt t at = testIn t (giving sideOf (sideTest .read (drop at t)))
 
 unfoldable pub bandAt : Bytes → ℕ → testread.TestRead
-bandAt t at = testIn t (giving (λ (c, (l, h)). inside c l h) (bandTest .read (drop at t)))
+bandAt t at = testIn t (giving insideOf (bandTest .read (drop at t)))
 
 unfoldable pub testAt : Bytes → ℕ → testread.TestRead
 testAt t at = testIn t (test .read (drop at t))

@@ -124,8 +124,8 @@ fn side_at(text: &[u8], at: usize) -> TestRead
         Test {
             sign,
             channel,
-            bound,
             band: false,
+            bound,
             high: 0,
         },
         next,
@@ -154,8 +154,8 @@ fn band_at(text: &[u8], at: usize) -> TestRead
         Test {
             sign: Sign::Less,
             channel,
-            bound: low,
             band: true,
+            bound: low,
             high,
         },
         next,

@@ -11,7 +11,7 @@ use Rattle.pattern.specs.declared.Kind.the-variants.{Plain}
 use Rattle.pattern.specs.declared.Guard.{Guard}
 use Rattle.pattern_text.specs.Bytes.{Bytes, bytes, Reading, got, broken}
 use Rattle.pattern_text.specs.Form.{giving, orElse, _▸_, _◂_, _⨾_, many, mapped, number}
-use Rattle.pattern_text.specs.Line.{TestLine, testOf, test, guard, bracket, resets, headerLine, placeLine, edgeLine}
+use Rattle.pattern_text.specs.Line.{RawTest, testOf, test, guard, bracket, resets, headerLine, placeLine, edgeLine}
 use Rattle.pattern_text.proofs.FormLaws.{many-exact}
 use Rattle.pattern_text.proofs.LineLaws.{test-exact, test-long, guard-exact, guard-long, resets-exact}
 use Rattle.text_scan.specs.declared.Found as found
@@ -44,7 +44,7 @@ weighing-within t at w n e = weighing-found t at w n e .within
 -- ---- what the lists were read as
 
 pub record TestsFound (channels : ℕ) (t : Bytes) (at : ℕ) (r : TestsRead) : Type 0 where
-  pub members : List TestLine
+  pub members : List RawTest
   pub is : many test .read (drop at t) ≡ got members (drop (r .next) t)
   pub made : r .tests ≡ gatheredTests channels (map testOf members)
   pub within : r .next ≤ length t

@@ -16,7 +16,7 @@ use weighting::Weighing;
 ghost use Rattle.pattern.specs.InUse.{testsOf, guardsOf, placesOf, edgesOf};
 ghost use Rattle.pattern_text.specs.Bytes.{bytes};
 ghost use Rattle.pattern_text.specs.Form.{writeMany};
-ghost use Rattle.pattern_text.specs.Line.{testLineOf, signWord, kindWord, weighingWord, sideTest, bandTest, test, guard, writeResets};
+ghost use Rattle.pattern_text.specs.Line.{rawTestOf, signWord, kindWord, weighingWord, sideTest, bandTest, test, guard, writeResets};
 ghost use Rattle.pattern_text.specs.Text.{flagged, renderOf};
 ghost use Rattle.text_put.specs.Put.{Put};
 ghost use Rattle.line_write.specs.Lines.{headerText, placeText, edgeText};
@@ -77,7 +77,7 @@ fn put_band(text: &mut [u8], at: usize, channel: u8, low: i32, high: i32) -> usi
 
 // A test of either kind.
 fn put_test(text: &mut [u8], at: usize, t: Test) -> usize
-    ensures { λ r. ⌜ Put (now (text .entry)) (now (text .exit)) at r (test .write (testLineOf t)) ⌝ }
+    ensures { λ r. ⌜ Put (now (text .entry)) (now (text .exit)) at r (test .write (rawTestOf t)) ⌝ }
 {
     if t.band {
         put_band(text, at, t.channel, t.bound, t.high)
@@ -99,7 +99,7 @@ fn put_guard(text: &mut [u8], at: usize, g: Guard) -> usize
 
 // The tests in use, one after the other.
 fn put_tests(text: &mut [u8], at: usize, l: Place) -> usize
-    ensures { λ r. ⌜ Put (now (text .entry)) (now (text .exit)) at r (writeMany (λ t. test .write (testLineOf t)) (testsOf l)) ⌝ }
+    ensures { λ r. ⌜ Put (now (text .entry)) (now (text .exit)) at r (writeMany (λ t. test .write (rawTestOf t)) (testsOf l)) ⌝ }
 {
     let count = in_use(l.count, 4);
     let mut n = at;

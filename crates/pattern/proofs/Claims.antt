@@ -24,9 +24,9 @@ use Rattle.pattern.specs.declared.Sign.the-variants.{Less, AtMost, More,
 use Rattle.pattern.specs.declared.Guard.{Guard}
 use Rattle.pattern.specs.declared.Pattern.{Pattern}
 use Rattle.pattern.specs.InUse.{guardsOf, edgesOf}
-use Rattle.pattern.specs.Sound.{sideOn, bandOn, boundInRange, bandInRange, testInRange, soundOf}
+use Rattle.pattern.specs.Sound.{bounded, banded, boundInRange, bandInRange, testInRange, soundOf}
 use Rattle.pattern.specs.Clocks.{onSide}
-use Rattle.pattern.specs.Distance.{readingOf, distanceFrom, distanceInside, distanceIn, distancesOf, placeWorth, DistancesInRange, BandSign, BandIsTwoTests, MarginIsLeast}
+use Rattle.pattern.specs.Distance.{readingOf, distanceFrom, bandDistance, distanceIn, distancesOf, placeWorth, DistancesInRange, BandSign, BandIsTwoTests, MarginIsLeast}
 use Rattle.pattern.specs.declared.Counted.the-variants.{Cells, Refused}
 use Rattle.pattern.specs.declared.Refusal.the-variants.{UnsoundPattern}
 use Rattle.pattern.specs.Cells.{boundsOn, largest, ceilingOf, clockCells, cellsFor, cellsNeeded, cellsOf, countedAs, GuardsSeeHeldClocks, SomeCell, CellsNumbers}
@@ -96,7 +96,7 @@ distances-in-range t v e h = either (t .band) e
     by AtLeast b = omega (arith, abs-sub (t .bound) v, abs-sub v (t .bound))
 
     either : (b : Bool) → cond b (bandInRange (t .bound) (t .high)) (boundInRange (t .bound)) ≡ true
-        → natAbs (cond b (distanceInside (t .bound) (t .high) v) (distanceFrom (t .sign) (t .bound) v)) ≤ 2_000_000
+        → natAbs (cond b (bandDistance (t .bound) (t .high) v) (distanceFrom (t .sign) (t .bound) v)) ≤ 2_000_000
     either true e =
         let r = band-parts (t .bound) (t .high) e in
         omega (arith, r .low, r .high, inside-size (t .bound) (t .high) v, abs-sub v (t .bound), abs-sub (t .high) v)
@@ -107,25 +107,25 @@ distances-in-range t v e h = either (t .band) e
 pub band-sign : BandSign
 band-sign c l h v = agree _ _ inside within
   where
-    inside : T (leZ (pos 0) (minZ (v -ℤ l) (h -ℤ v))) → T (leZ l v && leZ v h)
+    inside : T (leZ (pos 0) (bandDistance l h v)) → T (leZ l v && leZ v h)
     inside t =
         and-in (leZ l v) (leZ v h)
-        (of-T-le l v (omega (arith, pos-is 0, T-le-of (pos 0) (minZ (v -ℤ l) (h -ℤ v)) t, min-is (v -ℤ l) (h -ℤ v), sub-is v l, sub-is h v)))
-        (of-T-le v h (omega (arith, pos-is 0, T-le-of (pos 0) (minZ (v -ℤ l) (h -ℤ v)) t, min-is (v -ℤ l) (h -ℤ v), sub-is v l, sub-is h v)))
+        (of-T-le l v (omega (arith, pos-is 0, T-le-of (pos 0) (bandDistance l h v) t, min-is (v -ℤ l) (h -ℤ v), sub-is v l, sub-is h v)))
+        (of-T-le v h (omega (arith, pos-is 0, T-le-of (pos 0) (bandDistance l h v) t, min-is (v -ℤ l) (h -ℤ v), sub-is v l, sub-is h v)))
 
-    within : T (leZ l v && leZ v h) → T (leZ (pos 0) (minZ (v -ℤ l) (h -ℤ v)))
+    within : T (leZ l v && leZ v h) → T (leZ (pos 0) (bandDistance l h v))
     within t =
-        of-T-le (pos 0) (minZ (v -ℤ l) (h -ℤ v))
+        of-T-le (pos 0) (bandDistance l h v)
         (omega (arith, pos-is 0, T-le-of l v (and-l (leZ l v) (leZ v h) t), T-le-of v h (and-r (leZ l v) (leZ v h) t), min-is (v -ℤ l) (h -ℤ v), sub-is v l, sub-is h v))
 
 -- the least of a list in which two stand for their least
 pub band-is-two-tests : BandIsTwoTests
 unfolding placeWorth distancesOf combineFrom
 band-is-two-tests l m before after c low high p q s =
-    rw (p, q, map-append (distanceIn s) before (bandOn c low high ∷ after), map-append (distanceIn s) before (sideOn AtLeast c low ∷ sideOn AtMost c high ∷ after))
-    (combineFrom-append margin (margin .unit) (map (distanceIn s) before) (distanceIn s (bandOn c low high) ∷ map (distanceIn s) after)
+    rw (p, q, map-append (distanceIn s) before (banded c low high ∷ after), map-append (distanceIn s) before (bounded AtLeast c low ∷ bounded AtMost c high ∷ after))
+    (combineFrom-append margin (margin .unit) (map (distanceIn s) before) (distanceIn s (banded c low high) ∷ map (distanceIn s) after)
     ∙ ap (λ (z : ℤ). combineFrom margin z (map (distanceIn s) after)) (sym (min-assoc (combineAll margin (map (distanceIn s) before)) (readingOf s c -ℤ low) (high -ℤ readingOf s c)))
-    ∙ sym (combineFrom-append margin (margin .unit) (map (distanceIn s) before) (distanceIn s (sideOn AtLeast c low) ∷ distanceIn s (sideOn AtMost c high) ∷ map (distanceIn s) after)))
+    ∙ sym (combineFrom-append margin (margin .unit) (map (distanceIn s) before) (distanceIn s (bounded AtLeast c low) ∷ distanceIn s (bounded AtMost c high) ∷ map (distanceIn s) after)))
 
 -- ---- margins
 

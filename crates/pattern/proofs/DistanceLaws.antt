@@ -17,7 +17,7 @@ use Rattle.weighting.proofs.Worths.{combineAll-snoc}
 use Rattle.pattern.specs.declared.Sign.{Sign}
 use Rattle.pattern.specs.declared.Sign.the-variants.{Less, AtMost, More, AtLeast}
 use Rattle.pattern.specs.declared.Test.{Test}
-use Rattle.pattern.specs.Distance.{Sample, distanceFrom, distanceInside, distanceOf, distanceIn}
+use Rattle.pattern.specs.Distance.{Sample, distanceFrom, bandDistance, distanceOf, distanceIn}
 use Rattle.pattern.proofs.ListLaws.{take-more}
 use Rattle.integers.proofs.Linear.{abs-is, mag-is, sub-is}
 use Rattle.integers.proofs.Ranges.{abs-min}
@@ -50,7 +50,7 @@ sub-size : (a b : ℤ) → SFits w32 a → SFits w32 b → natAbs (a -ℤ b) < 2
 sub-size a b p q = omega (arith, p .sfits, q .sfits, mag-is a, mag-is b, sub-is a b, abs-is (a -ℤ b))
 
 -- a band's distance is no larger than both differences
-pub inside-size : (l h v : ℤ) → natAbs (distanceInside l h v) ≤ max (natAbs (v -ℤ l)) (natAbs (h -ℤ v))
+pub inside-size : (l h v : ℤ) → natAbs (bandDistance l h v) ≤ max (natAbs (v -ℤ l)) (natAbs (h -ℤ v))
 inside-size l h v = abs-min (v -ℤ l) (h -ℤ v)
 
 -- whatever i32 the value and the bounds are
@@ -63,7 +63,7 @@ distance-size t v p q r = either (t .band)
     by More = omega (arith, sub-size (t .bound) v q p, sub-size v (t .bound) p q)
     by AtLeast = omega (arith, sub-size (t .bound) v q p, sub-size v (t .bound) p q)
 
-    either : (b : Bool) → natAbs (cond b (distanceInside (t .bound) (t .high) v) (distanceFrom (t .sign) (t .bound) v)) < 2 ^ 32
+    either : (b : Bool) → natAbs (cond b (bandDistance (t .bound) (t .high) v) (distanceFrom (t .sign) (t .bound) v)) < 2 ^ 32
     either true = omega (arith, inside-size (t .bound) (t .high) v, sub-size v (t .bound) p q, sub-size (t .high) v r p)
     either false = by (t .sign)
 

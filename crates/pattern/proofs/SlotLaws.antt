@@ -2,8 +2,8 @@
 use Prim.Native.Nat.{ℕ, suc, _+_, _<_}
 use native.Mathlib.Numerals.{add-one}
 use native.Mathlib.Omega.{arith}
-use mathlib.Core.Path.{_≡_, refl, sym, ap, subst, _∙_}
-use mathlib.Core.List.{List, [], _∷_, _++_}
+use mathlib.Core.Path.{_≡_, refl, sym, ap, ap₂, subst, _∙_}
+use mathlib.Core.List.{List, [], _∷_, _++_, map}
 use mathlib.Core.Bool.{Bool, true, false, cond, _&&_, and-true, and-false, and-assoc}
 use borrow.Author.Tests.{ltb-true, ltb-false, eq-eqb, eqb-true}
 use lib.Dec.{eqb, leb, ltb}
@@ -11,7 +11,15 @@ use lib.ListN.{length, take, drop, getD, length-append, drop-of-length-le}
 use lib.Seq.{take-suc, take-all, take-nil, drop-nil, take-append-le, drop-append-le, length-take-le}
 use Rattle.pattern.specs.Slots.{all, slots}
 
+pub all-mapped : {A B : Type 0} (p : B → Bool) (f : A → B) (xs : List A) → all p (map f xs) ≡ all (λ x. p (f x)) xs
+all-mapped p f [] = refl
+all-mapped p f (x ∷ xs) = ap (λ (b : Bool). p (f x) && b) (all-mapped p f xs)
+
 module _ {A : Type 0} where
+  pub all-same : (p q : A → Bool) → ((a : A) → p a ≡ q a) → (xs : List A) → all p xs ≡ all q xs
+  all-same p q h [] = refl
+  all-same p q h (x ∷ xs) = ap₂ _&&_ (h x) (all-same p q h xs)
+
   pub all-append : (f : A → Bool) (xs ys : List A) → all f (xs ++ ys) ≡ all f xs && all f ys
   all-append f [] ys = refl
   all-append f (x ∷ xs) ys = ap (_&&_ (f x)) (all-append f xs ys) ∙ sym (and-assoc (f x) (all f xs) (all f ys))

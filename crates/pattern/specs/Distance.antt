@@ -16,7 +16,7 @@ use Rattle.pattern.specs.declared.Sign.{Sign}
 use Rattle.pattern.specs.declared.Sign.the-variants.{Less, AtMost, More, AtLeast}
 use Rattle.pattern.specs.declared.Test.{Test}
 use Rattle.pattern.specs.declared.Place.{Place}
-use Rattle.pattern.specs.Sound.{sideOn, bandOn, testInRange}
+use Rattle.pattern.specs.Sound.{bounded, banded, testInRange}
 use Rattle.pattern.specs.InUse.{testsOf}
 
 -- A sample is one value for each channel.
@@ -35,12 +35,12 @@ distanceFrom AtMost b v = b -ℤ v
 distanceFrom More b v = v -ℤ b
 distanceFrom AtLeast b v = v -ℤ b
 
--- A band's is the smaller of value - low and high - value, whatever the weighing (R-1).
-abbrev pub distanceInside : (low high value : ℤ) → ℤ
-distanceInside l h v = minZ (v -ℤ l) (h -ℤ v)
+-- A band's is that of the nearer end, and negative outside, whatever the weighing (R-1).
+abbrev pub bandDistance : (low high value : ℤ) → ℤ
+bandDistance l h v = minZ (v -ℤ l) (h -ℤ v)
 
 abbrev pub distanceOf : Test → (value : ℤ) → ℤ
-distanceOf t v = cond (t .band) (distanceInside (t .bound) (t .high) v) (distanceFrom (t .sign) (t .bound) v)
+distanceOf t v = cond (t .band) (bandDistance (t .bound) (t .high) v) (distanceFrom (t .sign) (t .bound) v)
 
 -- A test's distance in a sample.
 abbrev pub distanceIn : Sample → Test → ℤ
@@ -55,8 +55,8 @@ distancesOf l s = map (distanceIn s) (testsOf l)
 unfoldable pub placeWorth : Weighing → Place → Sample → ℤ
 placeWorth w l s = combineAll (weightingOf w) (distancesOf l s)
 
--- Theorem: values and bounds in document 01's range, -1,000,000 to 1,000,000, are at most 2,000,000 apart, so that
--- 2,000,001 stands above every distance.
+-- Theorem: values and bounds (a band's ends, too) in document 01's range, -1,000,000 to 1,000,000, are at most 2,000,000
+-- apart, so that 2,000,001 stands above every distance.
 abbrev pub DistancesInRange : Type 0
 DistancesInRange =
     (t : Test) (v : ℤ) → testInRange t ≡ true → natAbs v ≤ 1_000_000 → natAbs (distanceOf t v) ≤ 2_000_000
@@ -71,14 +71,14 @@ MarginIsLeast =
 
 -- Theorem: a band's distance is at least 0 exactly if the value lies in the band.
 abbrev pub BandSign : Type 0
-BandSign = (c : ℕ) (low high v : ℤ) → leZ (pos 0) (distanceOf (bandOn c low high) v) ≡ leZ low v && leZ v high
+BandSign = (c : ℕ) (low high v : ℤ) → leZ (pos 0) (distanceOf (banded c low high) v) ≡ leZ low v && leZ v high
 
--- Theorem: in margin a band is worth what `>=` its low and `<=` its high are worth in its place, among any tests.
+-- Theorem: in margin a band is worth, among any tests, what `>=` its low and `<=` its high are worth where it stands.
 abbrev pub BandIsTwoTests : Type 0
 BandIsTwoTests =
     (l m : Place) (before after : List Test) (c : ℕ) (low high : ℤ)
-    → testsOf l ≡ before ++ bandOn c low high ∷ after
-    → testsOf m ≡ before ++ sideOn AtLeast c low ∷ sideOn AtMost c high ∷ after
+    → testsOf l ≡ before ++ banded c low high ∷ after
+    → testsOf m ≡ before ++ bounded AtLeast c low ∷ bounded AtMost c high ∷ after
     → (s : Sample) → placeWorth Margin l s ≡ placeWorth Margin m s
 
 -- r is the test's distance in the sample. Whatever i32 the value and the bounds are, it is below 2^32 in size, and may be

@@ -22,17 +22,17 @@ use Rattle.pattern.specs.Slots.{anything, within, slots}
 -- ---- the two kinds of test, by what a text says of them
 
 -- a sign, a channel and a bound; no `high`
-abbrev pub sideOn : Sign → (channel : ℕ) → (bound : ℤ) → Test
-sideOn s c b = record { sign = s; channel = c; bound = b; band = false; high = pos 0 }
+abbrev pub bounded : Sign → (channel : ℕ) → (bound : ℤ) → Test
+bounded s c b = record { sign = s; channel = c; band = false; bound = b; high = pos 0 }
 
 -- R-1, a band: a channel, a low, which stands as `bound`, and a high; no sign
-abbrev pub bandOn : (channel : ℕ) → (low high : ℤ) → Test
-bandOn c l h = record { sign = Less; channel = c; bound = l; band = true; high = h }
+abbrev pub banded : (channel : ℕ) → (low high : ℤ) → Test
+banded c l h = record { sign = Less; channel = c; band = true; bound = l; high = h }
 
 -- ---- "Its unused slots are zeros, with sign `<` and kind plain."
 
 abbrev pub noTest : Test
-noTest = sideOn Less 0 (pos 0)
+noTest = bounded Less 0 (pos 0)
 
 abbrev pub noPlace : Place
 noPlace = record { kind = Plain; tests = replicate 4 noTest; count = 0 }
@@ -74,9 +74,9 @@ isNull (pos n) = eqb n 0
 isNull (negsuc n) = false
 
 unfoldable pub testUnused : Test → Bool
-testUnused t = isLess (t .sign) && eqb (t .channel) 0 && isNull (t .bound) && not (t .band) && isNull (t .high)
+testUnused t = isLess (t .sign) && eqb (t .channel) 0 && not (t .band) && isNull (t .bound) && isNull (t .high)
 
--- So is what a test in use leaves unsaid: a band its sign, any other test its `high`.
+-- Zeros, with sign `<`, stand also where a test in use says nothing: a band of a sign, any other test of a `high`.
 unfoldable pub unsaidZero : Test → Bool
 unsaidZero t = cond (t .band) (isLess (t .sign)) (isNull (t .high))
 

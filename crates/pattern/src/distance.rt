@@ -8,7 +8,7 @@ use weighting::combine;
 use weighting::lesser;
 use weighting::unit;
 ghost use mathlib.Core.Path.{_≡_};
-ghost use Rattle.pattern.specs.Distance.{readingOf, distanceFrom, distanceInside, distanceOf, placeWorth, Measured};
+ghost use Rattle.pattern.specs.Distance.{readingOf, distanceFrom, bandDistance, distanceOf, placeWorth, Measured};
 
 // i32 values and bounds become i64 distances: subtracted, and negated for `<` and `<=`.
 fn side_distance(s: Sign, bound: i32, value: i32) -> i64
@@ -25,7 +25,7 @@ fn side_distance(s: Sign, bound: i32, value: i32) -> i64
 
 // The smaller of value - low and high - value.
 fn band_distance(low: i32, high: i32, value: i32) -> i64
-    ensures { λ r. ⌜ r ≡ distanceInside low high value ⌝ }
+    ensures { λ r. ⌜ r ≡ bandDistance low high value ⌝ }
 {
     let above = value as i64 - low as i64;
     let below = high as i64 - value as i64;

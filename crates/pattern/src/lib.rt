@@ -20,13 +20,13 @@ pub enum Sign {
     AtLeast,
 }
 
-// A test is a sign of four kinds together with its channel and bound; or it is a band, whose low is `bound`. A band says no
-// sign and has `<` there; any other test says no `high` and has 0 there.
+// What a place asks of a channel: a sign with a bound, or a band, whose low stands as the bound (document 02, R-1). A band says no
+// sign and has `<` there, any other test says no high and has 0 there.
 pub struct Test {
     pub sign: Sign,
     pub channel: u8,
-    pub bound: i32,
     pub band: bool,
+    pub bound: i32,
     pub high: i32,
 }
 

@@ -46,7 +46,7 @@ pub fn test_unused(t: Test) -> bool
     ensures { λ r. ⌜ r ≡ testUnused t ⌝ }
 {
     let s = t.sign;
-    is_less(s) & (t.channel == 0) & (t.bound == 0) & !t.band & (t.high == 0)
+    is_less(s) & (t.channel == 0) & !t.band & (t.bound == 0) & (t.high == 0)
 }
 
 pub fn guard_unused(g: Guard) -> bool

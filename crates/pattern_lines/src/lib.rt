@@ -83,8 +83,8 @@ fn no_place() -> Place
     let t = Test {
         sign: Sign::Less,
         channel: 0,
-        bound: 0,
         band: false,
+        bound: 0,
         high: 0,
     };
     Place {

@@ -10,8 +10,9 @@ use lib.ListN.{length, set, length-append, length-map}
 use borrow.Author.Tests.{leb-true, ltb-true, lt-ltb}
 use Rattle.pattern.specs.Slots.{all}
 use Rattle.pattern.specs.Sound.{noPlace, noEdge, testInRange, testKnown, guardInRange, guardKnown, headerInRange, noPattern}
+use Rattle.pattern.proofs.SlotLaws.{all-mapped}
 use Rattle.pattern_text.specs.Line.{testOf, Header, PlaceLine, EdgeLine}
-use Rattle.pattern_text.specs.Fault.{Doc, rising, edgeKnown, lineInRange, lineKnown, placeFault, edgeFault, withPlace, withEdge}
+use Rattle.pattern_text.specs.Fault.{Doc, rising, edgeKnown, rawInRange, rawKnown, placeFault, edgeFault, withPlace, withEdge}
 use Rattle.pattern_text.specs.Text.{pad, placeOf, edgeOf, patternOf}
 use Rattle.pattern_text.proofs.Tools.{both, four}
 use Rattle.pattern_text.proofs.ForCode.{pad-snoc}
@@ -24,7 +25,7 @@ use Rattle.line_read.specs.Lines.{heldHeader}
 use Rattle.line_lists.proofs.Held.{min-ltb}
 use Rattle.pattern_lines.specs.Turn.{verdict, verdictOf, headerFine, headerAlone, putPlace, placeVerdict, placeFrom, putEdge, edgeVerdict, edgeFrom}
 use Rattle.pattern_lines.proofs.Judgement.{InRange, ranges}
-use Rattle.pattern_read.proofs.HeldLines.{header-held, few-held, all-mapped, place-held, guards-held, resets-held, resets-known}
+use Rattle.pattern_read.proofs.HeldLines.{header-held, few-held, place-held, guards-held, resets-held, resets-known}
 
 -- ---- the header
 
@@ -85,9 +86,9 @@ module _ (d : Doc) (fits : Fits d) (l : PlaceLine) where
   pub place-filled : placeFault d l ≡ none → putPlace (patternOf d) (placeFrom (l .kind) (gatheredTests (d .head .channels) (map testOf (l .tests)))) ≡ patternOf (withPlace d l)
   unfolding placeFault
   place-filled e =
-      let c = clear (ltb (length (d .places)) 16 && leb (length (l .tests)) 4) (all lineInRange (l .tests)) (all (lineKnown (d .head .channels)) (l .tests)) e in
+      let c = clear (ltb (length (d .places)) 16 && leb (length (l .tests)) 4) (all rawInRange (l .tests)) (all (rawKnown (d .head .channels)) (l .tests)) e in
       let k = both (ltb (length (d .places)) 16) (leb (length (l .tests)) 4) (c .0) in
-      let r = both (all lineInRange (l .tests)) (all (lineKnown (d .head .channels)) (l .tests)) (c .1) in
+      let r = both (all rawInRange (l .tests)) (all (rawKnown (d .head .channels)) (l .tests)) (c .1) in
       let s = small d fits in
       ap (putPlace (patternOf d)) (place-held (d .head .channels) (omega arith) l (leb-true (length (l .tests)) 4 (k .1)) (r .0) (r .1))
       ∙ place-put d l (ltb-true (length (d .places)) 16 (k .0))

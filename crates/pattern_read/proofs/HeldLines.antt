@@ -17,7 +17,7 @@ use Rattle.pattern.specs.Sound.{noTest, noGuard, boundInRange, testInRange, tes
 use Rattle.pattern.proofs.SoundLaws.{band-parts}
 use Rattle.pattern_text.specs.Line as line
 use Rattle.pattern_text.specs.Line.{testOf}
-use Rattle.pattern_text.specs.Fault.{rising, lineInRange, lineKnown}
+use Rattle.pattern_text.specs.Fault.{rising, rawInRange, rawKnown}
 use Rattle.pattern_text.specs.Text.{pad, among, flags, placeOf}
 use Rattle.pattern_text.proofs.Tools.{both, by-test}
 use Rattle.text_scan.specs.Scan.{cap}
@@ -65,15 +65,15 @@ map-same f g p q h (x ∷ xs) e k =
     let b = both (q x) (all q xs) k in
     ap₂ _∷_ (h x (a .0) (b .0)) (map-same f g p q h xs (a .1) (b .1))
 
-line-same : (channels : ℕ) → channels ≤ 255 → (x : line.TestLine) → lineInRange x ≡ true → lineKnown channels x ≡ true → heldTest (testOf x) ≡ testOf x
+line-same : (channels : ℕ) → channels ≤ 255 → (x : line.RawTest) → rawInRange x ≡ true → rawKnown channels x ≡ true → heldTest (testOf x) ≡ testOf x
 unfolding testInRange boundInRange testKnown
 line-same channels few (line.side s c b) r k =
     let n : min 255 c ≡ c = omega (arith, ltb-true c channels k) in
-    λ i. record { sign = s; channel = n i; bound = held-is b r i; band = false; high = pos 0 }
+    λ i. record { sign = s; channel = n i; band = false; bound = held-is b r i; high = pos 0 }
 line-same channels few (line.inside c l h) r k =
     let n : min 255 c ≡ c = omega (arith, ltb-true c channels k) in
     let p = band-parts l h r in
-    λ i. record { sign = Less; channel = n i; bound = held-is l (le-leb (natAbs l) 1_000_000 (p .low)) i; band = true; high = held-is h (le-leb (natAbs h) 1_000_000 (p .high)) i }
+    λ i. record { sign = Less; channel = n i; band = true; bound = held-is l (le-leb (natAbs l) 1_000_000 (p .low)) i; high = held-is h (le-leb (natAbs h) 1_000_000 (p .high)) i }
 
 guard-same : (clocks : ℕ) → clocks ≤ 255 → (x : Guard) → guardInRange x ≡ true → guardKnown clocks x ≡ true → heldGuard x ≡ x
 unfolding guardInRange guardKnown
@@ -82,17 +82,13 @@ guard-same clocks few x r k =
     let b : min 65_535 (x .bound) ≡ x .bound = omega (arith, leb-true (x .bound) 1_000 r) in
     λ i. record { sign = x .sign; clock = c i; bound = b i }
 
-pub all-mapped : {A B : Type 0} (p : B → Bool) (f : A → B) (xs : List A) → all p (map f xs) ≡ all (λ x. p (f x)) xs
-all-mapped p f [] = refl
-all-mapped p f (x ∷ xs) = ap (λ (b : Bool). p (f x) && b) (all-mapped p f xs)
-
 -- a place's line without a fault
-pub place-held : (channels : ℕ) → channels ≤ 255 → (l : line.PlaceLine) → length (l .tests) ≤ 4 → all lineInRange (l .tests) ≡ true → all (lineKnown channels) (l .tests) ≡ true → placeFrom (l .kind) (gatheredTests channels (map testOf (l .tests))) ≡ placeOf l
+pub place-held : (channels : ℕ) → channels ≤ 255 → (l : line.PlaceLine) → length (l .tests) ≤ 4 → all rawInRange (l .tests) ≡ true → all (rawKnown channels) (l .tests) ≡ true → placeFrom (l .kind) (gatheredTests channels (map testOf (l .tests))) ≡ placeOf l
 unfolding placeFrom gatheredTests placeOf
 place-held channels few l n r k =
     let ts = map testOf (l .tests) in
     let m = length-map (l .tests) testOf in
-    let same = map-map heldTest testOf (l .tests) ∙ map-same (λ x. heldTest (testOf x)) testOf lineInRange (lineKnown channels) (line-same channels few) (l .tests) r k in
+    let same = map-map heldTest testOf (l .tests) ∙ map-same (λ x. heldTest (testOf x)) testOf rawInRange (rawKnown channels) (line-same channels few) (l .tests) r k in
     let c : min 5 (length ts) ≡ length (l .tests) = omega arith in
     λ i. record { kind = l .kind; tests = pad 4 noTest ((ap (take 4) same ∙ take-all 4 ts (omega arith)) i); count = c i }
 

@@ -12,5 +12,5 @@ pub mod Size
 pub mod Answers
 pub mod Stops
 pub mod Theorems
-pub mod Before
+pub mod Signed
 pub mod ForCode

@@ -16,7 +16,7 @@ use Rattle.weighting.specs.declared.Weighing.the-variants.{Margin, Sum}
 use Rattle.pattern.specs.declared.Guard.{Guard}
 use Rattle.pattern_text.specs.Bytes.{Bytes, Flat, bytes, Reading, got, broken}
 use Rattle.pattern_text.specs.Form.{giving, orElse, strip, _▸_, _◂_, _⨾_, firstOf, oneOf, either, writeMany, many, mapped, number}
-use Rattle.pattern_text.specs.Line.{weighing, PlaceLine, kind, EdgeLine, resets, Raw, TestLine, side, inside, signWord, kindWord, weighingWord, sign, sideTest, bandTest, testIn, partsOf, test, guard, bracket, writeResets, headerLine, placeLine, edgeLine, renderLine, readLine, whole, lineOf, header, place, edge}
+use Rattle.pattern_text.specs.Line.{weighing, PlaceLine, kind, EdgeLine, resets, Raw, RawTest, side, inside, signWord, kindWord, weighingWord, sign, sideTest, bandTest, ofParts, partsOf, test, guard, bracket, writeResets, headerLine, placeLine, edgeLine, renderLine, readLine, whole, lineOf, header, place, edge}
 use Rattle.pattern_text.proofs.FormLaws.{Exact, Any, NoDigit, giving-inv, or-inv, ▸-exact, ◂-exact, ⨾-exact, mapped-exact, oneOf-exact, either-exact, many-exact, number-exact, integer-exact}
 
 -- ---- each is exact
@@ -79,17 +79,17 @@ no-side : (b : ℕ × (ℤ × ℤ)) (r : Bytes) → sideTest .read (bandTest .wr
 unfolding sideTest bandTest _▸_ _⨾_ sign oneOf firstOf strip signWord
 no-side b r = refl
 
-in-parts : (a : (Sign × (ℕ × ℤ)) ⊎ (ℕ × (ℤ × ℤ))) → partsOf (testIn a) ≡ a
+in-parts : (a : (Sign × (ℕ × ℤ)) ⊎ (ℕ × (ℤ × ℤ))) → partsOf (ofParts a) ≡ a
 in-parts (inl a) = refl
 in-parts (inr b) = refl
 
-parts-in : (t : TestLine) → testIn (partsOf t) ≡ t
+parts-in : (t : RawTest) → ofParts (partsOf t) ≡ t
 parts-in (side s c b) = refl
 parts-in (inside c l h) = refl
 
 pub test-exact : Exact test Any
 unfolding test
-test-exact = mapped-exact testIn partsOf (either-exact side-exact band-exact no-side) in-parts parts-in
+test-exact = mapped-exact ofParts partsOf (either-exact side-exact band-exact no-side) in-parts parts-in
 
 pub guard-exact : Exact guard Any
 unfolding guard
@@ -142,7 +142,7 @@ sign-long AtMost b = omega arith
 sign-long More b = omega arith
 sign-long AtLeast b = omega arith
 
-pub test-long : (t : TestLine) → 0 < length (test .write t)
+pub test-long : (t : RawTest) → 0 < length (test .write t)
 unfolding test mapped either sideTest bandTest _▸_ _⨾_ sign oneOf
 test-long (side s c b) = sign-long s _
 test-long (inside c l h) = omega arith
@@ -206,11 +206,11 @@ line-sound b l r e =
     (λ d. giving-inv place (placeLine .read b) l r d (λ h t v. place-exact .sound b h r t ∙ rw (← v)))
     (λ d. giving-inv edge (edgeLine .read b) l r d (λ h t v. edge-exact .sound b h r t ∙ rw (← v))))
 
-no-header-place : (h : PlaceLine) (r : Bytes) → headerLine .read (placeLine .write h ++ r) ≡ broken
+pub no-header-place : (h : PlaceLine) (r : Bytes) → headerLine .read (placeLine .write h ++ r) ≡ broken
 unfolding headerLine placeLine mapped _⨾_ _▸_ strip
 no-header-place h r = refl
 
-no-header-edge : (h : EdgeLine) (r : Bytes) → headerLine .read (edgeLine .write h ++ r) ≡ broken
+pub no-header-edge : (h : EdgeLine) (r : Bytes) → headerLine .read (edgeLine .write h ++ r) ≡ broken
 unfolding headerLine edgeLine mapped _⨾_ _▸_ strip
 no-header-edge h r = refl
 

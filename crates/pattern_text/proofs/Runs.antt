@@ -15,7 +15,7 @@ use Rattle.pattern.specs.Sound.{guardInRange, headerInRange}
 use Rattle.pattern_text.specs.Bytes.{Bytes, bytes}
 use Rattle.pattern_text.specs.Form.{writeMany}
 use Rattle.pattern_text.specs.Line.{Header, PlaceLine, EdgeLine, Raw, renderLine, header, place, edge}
-use Rattle.pattern_text.specs.Fault.{Doc, judged, edgeKnown, lineInRange, lineKnown, headerFault, placeFault, edgeFault, Step, unless, isEmpty, withPlace, withEdge, stepOf, next, stop}
+use Rattle.pattern_text.specs.Fault.{Doc, judged, edgeKnown, rawInRange, rawKnown, headerFault, placeFault, edgeFault, Step, unless, isEmpty, withPlace, withEdge, stepOf, next, stop}
 use Rattle.pattern_text.specs.Text.{rawsOf, ended}
 use Rattle.pattern_text.specs.Claims.{Says, nothing, onemore}
 use Rattle.pattern_text.proofs.Tools.{both, in-both, all-append}
@@ -27,7 +27,7 @@ unfoldable pub headFits : Header → Bool
 headFits h = headerInRange (h .channels) (h .clocks) (h .low) (h .high)
 
 unfoldable pub placeFits : (channels : ℕ) → PlaceLine → Bool
-placeFits channels l = leb (length (l .tests)) 4 && (all lineInRange (l .tests) && all (lineKnown channels) (l .tests))
+placeFits channels l = leb (length (l .tests)) 4 && (all rawInRange (l .tests) && all (rawKnown channels) (l .tests))
 
 unfoldable pub edgeFits : (clocks places : ℕ) → EdgeLine → Bool
 edgeFits clocks places e = leb (length (e .guards)) 4 && (all guardInRange (e .guards) && edgeKnown clocks places e)
@@ -92,7 +92,7 @@ edge-last xs es e = ap (_++_ xs) (map-append edge es (e ∷ [])) ∙ sym (append
 step-place : (d : Doc) (l : PlaceLine) → Fits d → d .edges ≡ [] → placeFault d l ≡ none → Stepped (some d) (place l) (withPlace d l)
 unfolding placeFault placeFits rawsOf
 step-place d l f p z =
-    let c = clear (ltb (length (d .places)) 16 && leb (length (l .tests)) 4) (all lineInRange (l .tests)) (all (lineKnown (d .head .channels)) (l .tests)) z in
+    let c = clear (ltb (length (d .places)) 16 && leb (length (l .tests)) 4) (all rawInRange (l .tests)) (all (rawKnown (d .head .channels)) (l .tests)) z in
     let k = both (ltb (length (d .places)) 16) (leb (length (l .tests)) 4) (c .0) in
     record {
       fits = record {
@@ -167,8 +167,8 @@ module _ (d : Doc) where
   place-clear : (l : PlaceLine) → length (d .places) < 16 → placeFits (d .head .channels) l ≡ true → placeFault d l ≡ none
   unfolding placeFits placeFault
   place-clear l n h =
-      let m = both (leb (length (l .tests)) 4) (all lineInRange (l .tests) && all (lineKnown (d .head .channels)) (l .tests)) h in
-      cleared (ltb (length (d .places)) 16 && leb (length (l .tests)) 4) (all lineInRange (l .tests)) (all (lineKnown (d .head .channels)) (l .tests))
+      let m = both (leb (length (l .tests)) 4) (all rawInRange (l .tests) && all (rawKnown (d .head .channels)) (l .tests)) h in
+      cleared (ltb (length (d .places)) 16 && leb (length (l .tests)) 4) (all rawInRange (l .tests)) (all (rawKnown (d .head .channels)) (l .tests))
       (in-both (lt-ltb (length (d .places)) 16 n) (m .0)) (m .1)
 
   edge-clear : (e : EdgeLine) → length (d .edges) < 32 → edgeFits (d .head .clocks) (length (d .places)) e ≡ true → edgeFault d e ≡ none

@@ -21,8 +21,8 @@ use Rattle.pattern.proofs.SoundLaws.{band-parts}
 use Rattle.pattern_text.specs.Bytes.{Bytes, bytes}
 use Rattle.pattern_text.specs.Numeral.{decimal}
 use Rattle.pattern_text.specs.Form.{_▸_, _◂_, _⨾_, oneOf, either, writeMany, many, mapped, number, writeℤ, integer}
-use Rattle.pattern_text.specs.Line.{Header, weighing, PlaceLine, kind, EdgeLine, resets, Raw, TestLine, side, inside, signWord, kindWord, weighingWord, sign, sideTest, bandTest, test, guard, bracket, writeResets, headerLine, placeLine, edgeLine, renderLine, header, place, edge}
-use Rattle.pattern_text.specs.Fault.{Doc, rising, lineInRange, lineKnown}
+use Rattle.pattern_text.specs.Line.{Header, weighing, PlaceLine, kind, EdgeLine, resets, Raw, RawTest, side, inside, signWord, kindWord, weighingWord, sign, sideTest, bandTest, test, guard, bracket, writeResets, headerLine, placeLine, edgeLine, renderLine, header, place, edge}
+use Rattle.pattern_text.specs.Fault.{Doc, rising, rawInRange, rawKnown}
 use Rattle.pattern_text.specs.Text.{rawsOf, ended}
 use Rattle.pattern_text.proofs.Tools.{both, in-both, by-test}
 use Rattle.pattern_text.proofs.NumeralLaws.{decimal-small, decimal-large}
@@ -93,7 +93,7 @@ band-size channels c l h n e k =
     let m = ltb-true c channels k in
     simp length-append (omega (arith, small c (omega arith), integer-size l (r .low), integer-size h (r .high)))
 
-test-size : (channels : ℕ) → channels ≤ 8 → (t : TestLine) → (lineInRange t && lineKnown channels t) ≡ true → length (test .write t) ≤ 31
+test-size : (channels : ℕ) → channels ≤ 8 → (t : RawTest) → (rawInRange t && rawKnown channels t) ≡ true → length (test .write t) ≤ 31
 unfolding test mapped either testInRange testKnown
 test-size channels n (side s c b) h =
     let k = both (boundInRange b) (ltb c channels) h in
@@ -113,13 +113,13 @@ guard-size clocks n g h =
 place-size : (channels : ℕ) → channels ≤ 8 → (l : PlaceLine) → placeFits channels l ≡ true → length (ended (place l)) ≤ 138
 unfolding ended renderLine placeLine mapped _▸_ _⨾_ _◂_ kind oneOf many placeFits
 place-size channels n l h =
-    let k = both (leb (length (l .tests)) 4) (all lineInRange (l .tests) && all (lineKnown channels) (l .tests)) h in
-    let m = both (all lineInRange (l .tests)) (all (lineKnown channels) (l .tests)) (k .1) in
+    let k = both (leb (length (l .tests)) 4) (all rawInRange (l .tests) && all (rawKnown channels) (l .tests)) h in
+    let m = both (all rawInRange (l .tests)) (all (rawKnown channels) (l .tests)) (k .1) in
     let c = leb-true (length (l .tests)) 4 (k .0) in
     simp length-append (omega (
       arith,
       kind-size (l .kind),
-      many-size (λ t. lineInRange t && lineKnown channels t) (test .write) 31 (test-size channels n) (l .tests) (all-join lineInRange (lineKnown channels) (l .tests) (m .0) (m .1)),
+      many-size (λ t. rawInRange t && rawKnown channels t) (test .write) 31 (test-size channels n) (l .tests) (all-join rawInRange (rawKnown channels) (l .tests) (m .0) (m .1)),
     ))
 
 known : (k m : ℕ) (cs : List ℕ) → rising k m cs ≡ true → all (λ c. ltb c m) cs ≡ true

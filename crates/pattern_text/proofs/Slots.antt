@@ -101,13 +101,13 @@ null-only (negsuc n) h = cc
 pub test-only : (t : Test) → testUnused t ≡ true → t ≡ noTest
 unfolding testUnused
 test-only t h =
-    let m = both (isLess (t .sign) && eqb (t .channel) 0 && isNull (t .bound) && not (t .band)) (isNull (t .high)) h in
-    let k = four (isLess (t .sign)) (eqb (t .channel) 0) (isNull (t .bound)) (not (t .band)) (m .0) in
+    let m = both (isLess (t .sign) && eqb (t .channel) 0 && not (t .band) && isNull (t .bound)) (isNull (t .high)) h in
+    let k = four (isLess (t .sign)) (eqb (t .channel) 0) (not (t .band)) (isNull (t .bound)) (m .0) in
     λ i. record {
       sign = less-only (t .sign) (k .0) i;
       channel = eqb-true (t .channel) 0 (k .1) i;
-      bound = null-only (t .bound) (k .2) i;
-      band = not-only (t .band) (k .3) i;
+      band = not-only (t .band) (k .2) i;
+      bound = null-only (t .bound) (k .3) i;
       high = null-only (t .high) (m .1) i;
     }
 

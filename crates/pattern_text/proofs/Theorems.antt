@@ -27,7 +27,7 @@ pub texts-short : TextsShort
 unfolding renderOf
 texts-short p h = short (docOf p) (sound-doc p h .fits)
 
-declined : {X : Type 0} {r : Refusal} {p : Pattern} → refused r ≡ accepted p → X
+pub declined : {X : Type 0} {r : Refusal} {p : Pattern} → refused r ≡ accepted p → X
 declined e = let z : _≡_ {A = ℕ} 0 1 = cc in absurd (omega arith)
 
 -- what is read has a place, fits, and is the pattern's

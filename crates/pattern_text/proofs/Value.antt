@@ -15,8 +15,8 @@ use Rattle.pattern.specs.declared.Pattern.{Pattern}
 use Rattle.pattern.specs.Slots.{all, within, anything, slots}
 use Rattle.pattern.specs.Sound.{noTest, noPlace, noGuard, noEdge, isLess, isNull, testUnused, guardUnused, placeUnused, edgeUnused, unsaidZero, testSound, guardInRange, guardKnown, headerInRange, placeSound, edgeSound, soundOf}
 use Rattle.pattern.proofs.SoundLaws.{test-parts}
-use Rattle.pattern_text.specs.Line.{Header, TestLine, side, inside, testOf, testLineOf, PlaceLine, EdgeLine}
-use Rattle.pattern_text.specs.Fault.{Doc, rising, edgeKnown, lineInRange, lineKnown}
+use Rattle.pattern_text.specs.Line.{Header, RawTest, side, inside, testOf, rawTestOf, PlaceLine, EdgeLine}
+use Rattle.pattern_text.specs.Fault.{Doc, rising, edgeKnown, rawInRange, rawKnown}
 use Rattle.pattern_text.specs.Text.{pad, flags, flagged, placeOf, edgeOf, patternOf, placeLineOf, edgeLineOf, docOf}
 use Rattle.pattern_text.proofs.Tools.{both, four, in-both}
 use Rattle.pattern_text.proofs.Runs.{headFits, placeFits, edgeFits, Fits}
@@ -56,7 +56,7 @@ all-any (x ∷ xs) = all-any xs
 -- ---- a place
 
 -- a test that leaves unsaid what its kind does is what its line says
-line-test : (t : Test) → unsaidZero t ≡ true → testOf (testLineOf t) ≡ t
+line-test : (t : Test) → unsaidZero t ≡ true → testOf (rawTestOf t) ≡ t
 unfolding unsaidZero
 line-test t e = by (t .band) refl e
   where
@@ -65,23 +65,23 @@ line-test t e = by (t .band) refl e
     by true h e = λ i. record { sign = sym (less-only (t .sign) e) i; channel = t .channel; bound = t .bound; band = sym h i; high = t .high }
     by false h e = λ i. record { sign = t .sign; channel = t .channel; bound = t .bound; band = sym h i; high = sym (null-only (t .high) e) i }
 
-unsaid-line : (x : TestLine) → unsaidZero (testOf x) ≡ true
+unsaid-line : (x : RawTest) → unsaidZero (testOf x) ≡ true
 unfolding unsaidZero
 unsaid-line (side s c b) = refl
 unsaid-line (inside c l h) = refl
 
-test-line : (x : TestLine) → testLineOf (testOf x) ≡ x
+test-line : (x : RawTest) → rawTestOf (testOf x) ≡ x
 test-line (side s c b) = refl
 test-line (inside c l h) = refl
 
-abbrev usedLine : ℕ → TestLine → Bool
-usedLine channels x = lineInRange x && lineKnown channels x
+abbrev usedLine : ℕ → RawTest → Bool
+usedLine channels x = rawInRange x && rawKnown channels x
 
 module _ (channels : ℕ) where
-  used-line : (t : Test) → testSound channels t ≡ true → usedLine channels (testLineOf t) ≡ true
+  used-line : (t : Test) → testSound channels t ≡ true → usedLine channels (rawTestOf t) ≡ true
   used-line t h = let p = test-parts channels t h in rw (line-test t (p .rest)) (in-both (p .inRange) (p .known))
 
-  sound-line : (x : TestLine) → usedLine channels x ≡ true → testSound channels (testOf x) ≡ true
+  sound-line : (x : RawTest) → usedLine channels x ≡ true → testSound channels (testOf x) ≡ true
   unfolding testSound
   sound-line x h = in-both h (unsaid-line x)
 
@@ -92,31 +92,31 @@ module _ (channels : ℕ) where
       let n = s .fits in
       let c = s .count in
       let ts = take (l .count) (l .tests) in
-      let m = length-map ts testLineOf in
-      in-both (le-leb (length (map testLineOf ts)) 4 (omega arith)) (all-split lineInRange (lineKnown channels) (map testLineOf ts) (all-map (testSound channels) testLineOf (usedLine channels) used-line ts (s .used-ones)))
+      let m = length-map ts rawTestOf in
+      in-both (le-leb (length (map rawTestOf ts)) 4 (omega arith)) (all-split rawInRange (rawKnown channels) (map rawTestOf ts) (all-map (testSound channels) rawTestOf (usedLine channels) used-line ts (s .used-ones)))
 
   place-back : (l : Place) → placeSound channels l ≡ true → placeOf (placeLineOf l) ≡ l
   unfolding placeSound placeOf placeLineOf
   place-back l h =
       let s = slotted (testSound channels) testUnused 4 noTest test-only (l .count) (l .tests) h in
       let ts = take (l .count) (l .tests) in
-      let back : map testOf (map testLineOf ts) ≡ ts = map-back (testSound channels) testLineOf testOf (λ t e. line-test t (test-parts channels t e .rest)) ts (s .used-ones) in
-      λ i. record { kind = l .kind; tests = (ap (pad 4 noTest) back ∙ s .padded) i; count = (length-map ts testLineOf ∙ s .count) i }
+      let back : map testOf (map rawTestOf ts) ≡ ts = map-back (testSound channels) rawTestOf testOf (λ t e. line-test t (test-parts channels t e .rest)) ts (s .used-ones) in
+      λ i. record { kind = l .kind; tests = (ap (pad 4 noTest) back ∙ s .padded) i; count = (length-map ts rawTestOf ∙ s .count) i }
 
   place-sound : (l : PlaceLine) → placeFits channels l ≡ true → placeSound channels (placeOf l) ≡ true
   unfolding placeSound placeFits placeOf testUnused
   place-sound l h =
-      let k = both (leb (length (l .tests)) 4) (all lineInRange (l .tests) && all (lineKnown channels) (l .tests)) h in
-      let m = both (all lineInRange (l .tests)) (all (lineKnown channels) (l .tests)) (k .1) in
+      let k = both (leb (length (l .tests)) 4) (all rawInRange (l .tests) && all (rawKnown channels) (l .tests)) h in
+      let m = both (all rawInRange (l .tests)) (all (rawKnown channels) (l .tests)) (k .1) in
       let n = length-map (l .tests) testOf in
       rw n at (pad-slots (testSound channels) testUnused 4 noTest refl (map testOf (l .tests)) (rw n (leb-true (length (l .tests)) 4 (k .0)))
-      (all-map (usedLine channels) testOf (testSound channels) sound-line (l .tests) (all-join lineInRange (lineKnown channels) (l .tests) (m .0) (m .1))))
+      (all-map (usedLine channels) testOf (testSound channels) sound-line (l .tests) (all-join rawInRange (rawKnown channels) (l .tests) (m .0) (m .1))))
 
 place-line-back : (l : PlaceLine) → placeLineOf (placeOf l) ≡ l
 unfolding placeOf placeLineOf
 place-line-back l =
     let t : take (length (l .tests)) (pad 4 noTest (map testOf (l .tests))) ≡ map testOf (l .tests) = rw (← length-map (l .tests) testOf) (take-pad 4 noTest (map testOf (l .tests))) in
-    λ i. record { kind = l .kind; tests = (ap (map testLineOf) t ∙ map-back anything testOf testLineOf (λ x _. test-line x) (l .tests) (all-any (l .tests))) i }
+    λ i. record { kind = l .kind; tests = (ap (map rawTestOf) t ∙ map-back anything testOf rawTestOf (λ x _. test-line x) (l .tests) (all-any (l .tests))) i }
 
 -- ---- an edge
 

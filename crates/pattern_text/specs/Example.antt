@@ -8,7 +8,7 @@ use Rattle.weighting.specs.declared.Weighing.the-variants.{Margin, Sum}
 use Rattle.pattern.specs.declared.Sign.the-variants.{Less, AtMost, More}
 use Rattle.pattern.specs.declared.Kind.the-variants.{Start, Plain, End}
 use Rattle.pattern.specs.declared.Pattern.{Pattern}
-use Rattle.pattern.specs.Sound.{sideOn, noTest, noPlace, noGuard, noEdge}
+use Rattle.pattern.specs.Sound.{bounded, noTest, noPlace, noGuard, noEdge}
 use Rattle.pattern_text.specs.Bytes.{Bytes, bytes}
 
 -- the lines after the first
@@ -28,8 +28,8 @@ example w =
       low = 1;
       high = 4;
       placecount = 3;
-      places = record { kind = Start; tests = sideOn Less 0 (pos 15) ∷ replicate 3 noTest; count = 1 }
-          ∷ record { kind = Plain; tests = sideOn More 0 (pos 5) ∷ replicate 3 noTest; count = 1 }
+      places = record { kind = Start; tests = bounded Less 0 (pos 15) ∷ replicate 3 noTest; count = 1 }
+          ∷ record { kind = Plain; tests = bounded More 0 (pos 5) ∷ replicate 3 noTest; count = 1 }
           ∷ record { kind = End; tests = replicate 4 noTest; count = 0 }
           ∷ replicate 13 noPlace;
       edgecount = 2;

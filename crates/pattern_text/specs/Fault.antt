@@ -9,7 +9,7 @@ use Rattle.pattern.specs.declared.Refusal.{Refusal}
 use Rattle.pattern.specs.declared.Refusal.the-variants.{BrokenForm, OutOfRange, TooMany, UnknownIndex}
 use Rattle.pattern.specs.Slots.{all}
 use Rattle.pattern.specs.Sound.{testInRange, testKnown, guardInRange, guardKnown, headerInRange}
-use Rattle.pattern_text.specs.Line.{Header, TestLine, testOf, PlaceLine, EdgeLine, Raw, header, place, edge}
+use Rattle.pattern_text.specs.Line.{Header, RawTest, testOf, PlaceLine, EdgeLine, Raw, header, place, edge}
 
 -- what was read: the header, the places and the edges
 pub record Doc : Type 0 where
@@ -35,19 +35,19 @@ edgeKnown clocks places e = ltb (e .from) places && ltb (e .to) places && all (g
 unfoldable pub headerFault : Header → Option Refusal
 headerFault h = judged true (headerInRange (h .channels) (h .clocks) (h .low) (h .high)) true
 
--- a test's numbers in their ranges, among them a band's low not above its high (R-1), and its channel known
-abbrev pub lineInRange : TestLine → Bool
-lineInRange x = testInRange (testOf x)
+-- a test's numbers in their ranges, among which a band's low above its high counts as out of range (R-1); its channel known
+abbrev pub rawInRange : RawTest → Bool
+rawInRange x = testInRange (testOf x)
 
-abbrev pub lineKnown : (channels : ℕ) → TestLine → Bool
-lineKnown channels x = testKnown channels (testOf x)
+abbrev pub rawKnown : (channels : ℕ) → RawTest → Bool
+rawKnown channels x = testKnown channels (testOf x)
 
 -- "1 to 16 places .. with 0 to 4 tests"
 unfoldable pub placeFault : Doc → PlaceLine → Option Refusal
 placeFault d l = judged
     (ltb (length (d .places)) 16 && leb (length (l .tests)) 4)
-    (all lineInRange (l .tests))
-    (all (lineKnown (d .head .channels)) (l .tests))
+    (all rawInRange (l .tests))
+    (all (rawKnown (d .head .channels)) (l .tests))
 
 -- "0 to 32 edges .. 0 to 4 guards"
 unfoldable pub edgeFault : Doc → EdgeLine → Option Refusal

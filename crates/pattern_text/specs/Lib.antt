@@ -6,6 +6,6 @@ pub mod Line
 pub mod Fault
 pub mod Text
 pub mod Claims
-pub mod Before
+pub mod Signed
 pub mod Example
 pub mod Examples

@@ -14,7 +14,7 @@ use Rattle.weighting.specs.declared.Weighing.{Weighing}
 use Rattle.weighting.specs.declared.Weighing.the-variants.{Margin, Sum}
 use Rattle.pattern.specs.declared.Test.{Test}
 use Rattle.pattern.specs.declared.Guard.{Guard}
-use Rattle.pattern.specs.Sound.{sideOn, bandOn}
+use Rattle.pattern.specs.Sound.{bounded, banded}
 use Rattle.pattern_text.specs.Bytes.{Bytes, Reading, got, broken}
 use Rattle.pattern_text.specs.Form.{Form, giving, orElse, _▸_, _◂_, _⨾_, oneOf, either, many, mapped, number, integer}
 
@@ -26,24 +26,24 @@ pub record Header : Type 0 where
   pub low : ℕ
   pub high : ℕ
 
--- a test: "a sign .., a channel, and a bound"; or a band (R-1): a channel, a low and a high
-pub data TestLine : Type 0 where
-  side : Sign → (channel : ℕ) → (bound : ℤ) → TestLine
-  inside : (channel : ℕ) → (low high : ℤ) → TestLine
+-- what a test says: "a sign .., a channel, and a bound"; or, of a band (R-1), a channel, a low and a high
+pub data RawTest : Type 0 where
+  side : Sign → (channel : ℕ) → (bound : ℤ) → RawTest
+  inside : (channel : ℕ) → (low high : ℤ) → RawTest
 
--- the test that it says
-abbrev pub testOf : TestLine → Test
-testOf (side s c b) = sideOn s c b
-testOf (inside c l h) = bandOn c l h
+-- the test as a value
+abbrev pub testOf : RawTest → Test
+testOf (side s c b) = bounded s c b
+testOf (inside c l h) = banded c l h
 
 -- and back
-abbrev pub testLineOf : Test → TestLine
-testLineOf t = cond (t .band) (inside (t .channel) (t .bound) (t .high)) (side (t .sign) (t .channel) (t .bound))
+abbrev pub rawTestOf : Test → RawTest
+rawTestOf t = cond (t .band) (inside (t .channel) (t .bound) (t .high)) (side (t .sign) (t .channel) (t .bound))
 
 -- a place: "`start`, `plain`, `end` or `both`, with .. tests"
 pub record PlaceLine : Type 0 where
   pub kind : Kind
-  pub tests : List TestLine
+  pub tests : List RawTest
 
 -- an edge: "from, to, .. guards .., then resets"
 pub record EdgeLine : Type 0 where
@@ -98,17 +98,24 @@ sideTest = sign ⨾ number ◂ " " ⨾ integer ◂ ")"
 unfoldable pub bandTest : Form (ℕ × (ℤ × ℤ))
 bandTest = " (in " ▸ number ◂ " " ⨾ integer ◂ " " ⨾ integer ◂ ")"
 
-abbrev pub testIn : (Sign × (ℕ × ℤ)) ⊎ (ℕ × (ℤ × ℤ)) → TestLine
-testIn (inl (s, (c, b))) = side s c b
-testIn (inr (c, (l, h))) = inside c l h
+-- between what was read of either and what it says
+abbrev pub sideOf : Sign × (ℕ × ℤ) → RawTest
+sideOf (s, (c, b)) = side s c b
 
-abbrev pub partsOf : TestLine → (Sign × (ℕ × ℤ)) ⊎ (ℕ × (ℤ × ℤ))
+abbrev pub insideOf : ℕ × (ℤ × ℤ) → RawTest
+insideOf (c, (l, h)) = inside c l h
+
+abbrev pub ofParts : (Sign × (ℕ × ℤ)) ⊎ (ℕ × (ℤ × ℤ)) → RawTest
+ofParts (inl a) = sideOf a
+ofParts (inr b) = insideOf b
+
+abbrev pub partsOf : RawTest → (Sign × (ℕ × ℤ)) ⊎ (ℕ × (ℤ × ℤ))
 partsOf (side s c b) = inl (s, (c, b))
 partsOf (inside c l h) = inr (c, (l, h))
 
 -- a test of either kind
-unfoldable pub test : Form TestLine
-test = mapped testIn partsOf (either sideTest bandTest)
+unfoldable pub test : Form RawTest
+test = mapped ofParts partsOf (either sideTest bandTest)
 
 -- ` (< 0 3)`: "a sign, a clock, a bound"
 unfoldable pub guard : Form Guard

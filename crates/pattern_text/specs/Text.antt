@@ -13,7 +13,7 @@ use Rattle.pattern.specs.declared.Pattern.{Pattern}
 use Rattle.pattern.specs.Sound.{noTest, noPlace, noGuard, noEdge}
 use Rattle.pattern_text.specs.Bytes.{Bytes, bytes}
 use Rattle.pattern_text.specs.Form.{writeMany}
-use Rattle.pattern_text.specs.Line.{testOf, testLineOf, PlaceLine, EdgeLine, Raw, renderLine, lineOf, header, place, edge}
+use Rattle.pattern_text.specs.Line.{testOf, rawTestOf, PlaceLine, EdgeLine, Raw, renderLine, lineOf, header, place, edge}
 use Rattle.pattern_text.specs.Fault.{Doc, Step, isEmpty, stepOf, next, stop}
 
 -- the answer to a text: the pattern, or "its number alone", by its cause (`numberOf`)
@@ -79,7 +79,7 @@ patternOf d = record {
 
 -- and back: what a pattern's text says
 unfoldable pub placeLineOf : Place → PlaceLine
-placeLineOf l = record { kind = l .kind; tests = map testLineOf (take (l .count) (l .tests)) }
+placeLineOf l = record { kind = l .kind; tests = map rawTestOf (take (l .count) (l .tests)) }
 
 unfoldable pub edgeLineOf : Edge → EdgeLine
 edgeLineOf e = record { from = e .from; to = e .to; guards = take (e .count) (e .guards); resets = flagged 0 (e .resets) }

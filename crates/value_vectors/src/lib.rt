@@ -106,8 +106,8 @@ fn test(r: Numbers, bound: i32, band: bool, high: i32) -> Pattern {
     let t = Test {
         sign: sign(r.c),
         channel: low_byte(r.d),
-        bound,
         band,
+        bound,
         high,
     };
     with_test(usual(), r.a as usize, r.b as usize, t)

@@ -4,7 +4,7 @@ use mathlib.Core.List.{List, [], _∷_, _++_, map}
 use Rattle.pattern.specs.declared.Test.{Test}
 use Rattle.pattern.specs.InUse.{testsOf}
 use Rattle.pattern_text.specs.Form.{writeMany}
-use Rattle.pattern_text.specs.Line.{testLineOf, test}
+use Rattle.pattern_text.specs.Line.{rawTestOf, test}
 use Rattle.pattern_text.specs.Form.{_▸_, _⨾_, _◂_, mapped, oneOf, many}
 use Rattle.pattern_text.specs.Line.{kind, placeLine, renderLine}
 use Rattle.pattern_text.specs.Text.{placeLineOf, ended}
@@ -14,10 +14,10 @@ use Rattle.line_write.proofs.put_place.Statement.{statement}
 use Rattle.line_write.proofs.put_place.Tie as tie
 
 -- the tests as a line has them
-write-mapped : (ts : List Test) → writeMany (λ t. test .write (testLineOf t)) ts ≡ writeMany (test .write) (map testLineOf ts)
+write-mapped : (ts : List Test) → writeMany (λ t. test .write (rawTestOf t)) ts ≡ writeMany (test .write) (map rawTestOf ts)
 unfolding writeMany
 write-mapped [] = refl
-write-mapped (t ∷ ts) = ap (_++_ (test .write (testLineOf t))) (write-mapped ts)
+write-mapped (t ∷ ts) = ap (_++_ (test .write (rawTestOf t))) (write-mapped ts)
 
 slice-aggregate-put-word : tie.Need-slice-aggregate-put-word
 slice-aggregate-put-word c = search needs

@@ -22,7 +22,7 @@ unfolding test mapped either
 returns c =
     let s = c .before .before .before .before .before .before .before .before in
     let t = s .args .t in
-    let b-fits : SFits w32 (t .bound) = record { sfits = s .good .1 .1 .0 .1 .1 .1 .1 .0 .1 } in
+    let b-fits : SFits w32 (t .bound) = record { sfits = s .good .1 .1 .0 .1 .1 .1 .1 .1 .0 .1 } in
     let h-fits : SFits w32 (t .high) = record { sfits = s .good .1 .1 .0 .1 .1 .1 .1 .1 .1 .0 .1 } in
     let e = simp (toZ-ofZ b-fits, toZ-ofZ h-fits) at (c .before .before .put-band .ensures) in
     rw (c .before .before .before .before .before .before .if1 .taken) e
@@ -35,7 +35,7 @@ unfolding test mapped either
 returns-2 c =
     let s = c .before .before .before .before .before .before .before in
     let t = s .args .t in
-    let b-fits : SFits w32 (t .bound) = record { sfits = s .good .1 .1 .0 .1 .1 .1 .1 .0 .1 } in
+    let b-fits : SFits w32 (t .bound) = record { sfits = s .good .1 .1 .0 .1 .1 .1 .1 .1 .0 .1 } in
     let e = simp (toZ-ofZ b-fits) at (c .before .before .put-side .ensures) in
     rw (c .before .before .before .before .before .if1 .left) e
 

@@ -4,14 +4,14 @@ use mathlib.Core.Path.{_≡_}
 use native.Mathlib.Omega.{arith}
 use lib.ListN.{length, take, length-map}
 use Rattle.pattern_text.specs.Form.{writeMany}
-use Rattle.pattern_text.specs.Line.{testLineOf, test}
+use Rattle.pattern_text.specs.Line.{rawTestOf, test}
 use Rattle.text_put.specs.Put.{Put}
 use Rattle.text_put.proofs.PutLaws.{put-long, many-none, many-next, many-all}
 use Rattle.line_write.proofs.put_tests.Statement.{statement}
 use Rattle.line_write.proofs.put_tests.Tie as tie
 
 abbrev Inv-loop : tie.InvT-loop
-Inv-loop text₀ at l count n₀ i₀ text n i = (i ≤ count) × (count ≡ min (l .count) 4) × Put text₀ text at n (writeMany (λ t. test .write (testLineOf t)) (take i (l .tests)))
+Inv-loop text₀ at l count n₀ i₀ text n i = (i ≤ count) × (count ≡ min (l .count) 4) × Put text₀ text at n (writeMany (λ t. test .write (rawTestOf t)) (take i (l .tests)))
 
 abbrev μ-loop : tie.MeasureT-loop
 μ-loop text₀ at l count n₀ i₀ text n i = count - i
@@ -24,7 +24,7 @@ in-use-requires : tie.Need-in-use-requires Inv-loop μ-loop
 in-use-requires c κs = tt
 
 loop-holds : tie.Need-loop-holds Inv-loop μ-loop
-loop-holds c = (omega arith, c .in-use .ensures, many-none (λ t. test .write (testLineOf t)) _ _ (c .before .before .args .t3 .tests))
+loop-holds c = (omega arith, c .in-use .ensures, many-none (λ t. test .write (rawTestOf t)) _ _ (c .before .before .args .t3 .tests))
 
 mul-t : tie.Need-mul-t Inv-loop μ-loop
 mul-t c = omega arith
@@ -46,7 +46,7 @@ loop-again c =
     let p = c .before .before in
     let s = p .before .before .before .before in
     let e = four (s .before .before .before) in
-    (omega arith, s .loop .inv .1, many-next (λ t. test .write (testLineOf t)) (s .before .before .before .args .t3 .tests) (s .loop .i) _ (omega arith) (s .loop .inv .2) (p .put-test .ensures))
+    (omega arith, s .loop .inv .1, many-next (λ t. test .write (rawTestOf t)) (s .before .before .before .args .t3 .tests) (s .loop .i) _ (omega arith) (s .loop .inv .2) (p .put-test .ensures))
 
 same-length : tie.Need-same-length Inv-loop μ-loop
 same-length c = put-long (c .before .loop .inv .2)
@@ -55,7 +55,7 @@ returns : tie.Need-returns Inv-loop μ-loop
 returns c =
     let s = c .before in
     let a = s .before .before .before .args .t3 in
-    many-all (λ t. test .write (testLineOf t)) (a .tests) (s .loop .i) (a .count) 4 (four (s .before .before .before)) (omega arith) (s .loop .inv .2)
+    many-all (λ t. test .write (rawTestOf t)) (a .tests) (s .loop .i) (a .count) 4 (four (s .before .before .before)) (omega arith) (s .loop .inv .2)
 
 pub put-tests-spec : {M : Type 1} → statement M
 put-tests-spec =

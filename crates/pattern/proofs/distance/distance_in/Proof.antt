@@ -20,7 +20,7 @@ returns c =
     let t = s .args .t in
     let v = c .before .reading .result in
     let v-fits : SFits w32 v = record { sfits = c .before .reading .ok } in
-    let b-fits : SFits w32 (t .bound) = record { sfits = s .good .0 .1 .1 .1 .1 .0 .1 } in
+    let b-fits : SFits w32 (t .bound) = record { sfits = s .good .0 .1 .1 .1 .1 .1 .0 .1 } in
     let h-fits : SFits w32 (t .high) = record { sfits = s .good .0 .1 .1 .1 .1 .1 .1 .0 .1 } in
     let r-is : c .distance .result ≡ distanceOf t v = c .distance .ensures ∙ ap (distanceOf t) (toZ-ofZ v-fits) in
     let back : toZ w64 (ofZ w64 (c .distance .result)) ≡ c .distance .result = toZ-ofZ (record { sfits = c .distance .ok }) in

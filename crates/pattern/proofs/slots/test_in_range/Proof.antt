@@ -7,7 +7,7 @@ use Rattle.pattern.proofs.slots.test_in_range.Statement.{statement}
 use Rattle.pattern.proofs.slots.test_in_range.Tie as tie
 
 low-fits : (c : tie.Start) → SFits w32 (c .args .t .bound)
-low-fits c = record { sfits = c .good .0 .1 .1 .1 .1 .0 .1 }
+low-fits c = record { sfits = c .good .0 .1 .1 .1 .1 .1 .0 .1 }
 
 high-fits : (c : tie.Start) → SFits w32 (c .args .t .high)
 high-fits c = record { sfits = c .good .0 .1 .1 .1 .1 .1 .1 .0 .1 }

@@ -14,7 +14,7 @@ unfolding testUnused
 returns c =
     let a = c .before .before .before .before .before .before .before in
     let t = a .args .t in
-    let b-fits : SFits w32 (t .bound) = record { sfits = a .good .0 .1 .1 .1 .1 .0 .1 } in
+    let b-fits : SFits w32 (t .bound) = record { sfits = a .good .0 .1 .1 .1 .1 .1 .0 .1 } in
     let h-fits : SFits w32 (t .high) = record { sfits = a .good .0 .1 .1 .1 .1 .1 .1 .0 .1 } in
     rw (c .before .before .before .before .before .before .is-less .ensures, null-bits (t .bound) b-fits, null-bits (t .high) h-fits)
 
