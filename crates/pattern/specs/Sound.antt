@@ -1,6 +1,6 @@
--- When a pattern value is sound (document 01, 'Pattern text'; document 02, R-1): every count, range and index is one that a text can
--- have, and what a text does not say is zeros. That it is sound exactly if some text reads as it is a theorem of the
--- crate pattern_text.
+-- When a pattern value is sound (document 01, 'Pattern text'; document 02, R-1): every count, range and index is one that
+-- a text can have, and what a text does not say is zeros. That it is sound exactly if some text reads as it is a theorem
+-- of the crate pattern_text.
 use Prim.Native.Nat.{ℕ}
 use mathlib.Core.Bool.{Bool, true, false, not, cond, _&&_}
 use lib.Dec.{eqb, leb, ltb}
@@ -123,6 +123,7 @@ headerInRange channels clocks low high =
 
 -- ---- the pattern
 
+-- a test in use
 unfoldable pub testSound : (channels : ℕ) → Test → Bool
 testSound channels t = testInRange t && testKnown channels t && unsaidZero t
 

@@ -20,8 +20,8 @@ pub enum Sign {
     AtLeast,
 }
 
-// What a place asks of a channel: a sign with a bound, or a band, whose low stands as the bound (document 02, R-1). A band says no
-// sign and has `<` there, any other test says no high and has 0 there.
+// What a place asks of a channel: a sign with a bound, or a band, whose low stands as the bound (document 02, R-1). A band
+// says no sign and has `<` there, any other test says no high and has 0 there.
 pub struct Test {
     pub sign: Sign,
     pub channel: u8,

@@ -11,7 +11,6 @@ use lib.ListN.{length}
 use lib.IntN.{ℤ}
 use Rattle.pattern.specs.declared.Sign.{Sign}
 use Rattle.pattern.specs.declared.Kind.{Kind}
-use Rattle.pattern.specs.declared.Place.{Place}
 use Rattle.pattern.specs.declared.Pattern.{Pattern}
 use Rattle.pattern.specs.declared.Refusal.the-variants.{TextTooLong, BrokenForm}
 use Rattle.pattern.specs.Slots.{all}
