@@ -58,6 +58,24 @@ const char *unbounded(const char *weighting, unsigned high)
     return text;
 }
 
+/* OVERSHOOT's edges and clock, where each place that is stayed in tests two channels of its own. */
+const char *eight_channels(const char *weighting, unsigned high, unsigned bound)
+{
+    snprintf(text, sizeof text,
+             "(pattern %s 8 1 1 %u)\n"
+             "(place start (< 0 30) (> 1 -30))\n"
+             "(place plain (in 2 -20 20) (> 3 -30))\n"
+             "(place plain (< 4 30) (in 5 -20 20))\n"
+             "(place plain (> 6 -30) (< 7 30))\n"
+             "(place end)\n"
+             "(edge 0 1 (reset 0))\n"
+             "(edge 1 2 (< 0 %u))\n"
+             "(edge 2 3 (< 0 %u))\n"
+             "(edge 3 4 (< 0 %u))\n",
+             weighting, high, bound, bound, bound);
+    return text;
+}
+
 /* Rises and falls in turn, by more than 10 in 10 s, with pauses below `pause` ticks or none; the last fall is left in less
  * than `bound` ticks from the beginning. */
 const char *ringing(const char *weighting, unsigned high, unsigned bound, unsigned pause)
@@ -248,5 +266,25 @@ struct record gearbox_record(size_t entries)
         values[1] = (load ? 210 : 18) + (int32_t)draw(&d, 31) - 15;
         values[2] = (load ? 1380 : 1210) + (int32_t)draw(&d, 101) - 50;
     }
+    return r;
+}
+
+/* Sensors that tell a value when it has changed: an entry of one tick moves one to three of them. */
+struct record sensors_record(size_t entries)
+{
+    struct record r = new_record(entries, 8);
+    struct draws d = {SEED};
+    int32_t now[8] = {0};
+
+    for (size_t i = 0; i < entries; i++) {
+        for (uint64_t n = 1 + draw(&d, 3); n > 0; n--) {
+            size_t channel = draw(&d, 8);
+
+            now[channel] = (int32_t)draw(&d, 101) - 50;
+        }
+        r.durations[i] = 1;
+        memcpy(r.values + 8 * i, now, sizeof now);
+    }
+    r.ticks = entries;
     return r;
 }

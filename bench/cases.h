@@ -20,6 +20,7 @@ struct record {
 const char *overshoot(const char *weighting, unsigned high, unsigned bound);
 const char *overshoot_band(const char *weighting, unsigned high, unsigned bound); /* the same with a band for two tests */
 const char *unbounded(const char *weighting, unsigned high);
+const char *eight_channels(const char *weighting, unsigned high, unsigned bound);
 const char *ringing(const char *weighting, unsigned high, unsigned bound, unsigned pause);
 const char *many_clocks(unsigned clocks, unsigned high, unsigned bound);
 const char *gearbox(const char *weighting, unsigned high); /* of examples/gearbox; high 0: its own weighting and window */
@@ -28,6 +29,7 @@ const char *gearbox(const char *weighting, unsigned high); /* of examples/gearbo
 struct record cruise_record(size_t entries, unsigned period); /* channels: reference, velocity less reference */
 struct record swing_record(size_t entries, unsigned period);  /* channel: velocity less that of 10 s before */
 struct record gearbox_record(size_t entries);                 /* channels: oil pressure, torque, speed */
+struct record sensors_record(size_t entries);                 /* eight channels, of which an entry moves a few */
 void free_record(struct record *r);
 
 /* Random numbers from a fixed seed. */

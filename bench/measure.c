@@ -426,12 +426,13 @@ static size_t window_of(const char *text)
     return p.high;
 }
 
-/* After the source's experiments, both weightings each; a band; and the four clocks of examples/gearbox. */
+/* After the source's experiments, both weightings each; a band; the four clocks of examples/gearbox; and eight channels, of which
+ * an entry moves a few, so that in sum it is new to some places and not to others. */
 static void records(void)
 {
     static const char *const weightings[] = {"margin", "sum"};
     struct record cruise = cruise_record(ENTRIES, 10), swing = swing_record(ENTRIES, 10), gears = gearbox_record(ENTRIES);
-    struct record part = cruise;
+    struct record part = cruise, sensors = sensors_record(10000);
 
     for (int w = 0; w < 2; w++) {
         const char *weighting = weightings[w];
@@ -451,9 +452,11 @@ static void records(void)
     time_record("record", "OVERSHOOT with a band, margin", 30, overshoot_band("margin", 30, 15), &part);
     time_record("record", "OVERSHOOT unbounded, margin", 4095, unbounded("margin", 4095), &part);
     time_record("record", "gearbox, margin", window_of(gearbox("margin", 0)), gearbox("margin", 0), &gears);
+    time_record("record", "eight channels, sum", 30, eight_channels("sum", 30, 15), &sensors);
     free_record(&cruise);
     free_record(&swing);
     free_record(&gears);
+    free_record(&sensors);
 }
 
 static void growth(void)

@@ -60,6 +60,15 @@ static int64_t gain(int sum, const struct plain_place *q, const int32_t *values)
     return worth;
 }
 
+/* Are these values new to a place that a run stays in: do they differ from the last ones where it has a test. */
+static int is_new(const struct plain_place *q, const int32_t *values, const int64_t *last)
+{
+    for (int i = 0; i < q->tests; i++)
+        if (values[q->test[i].channel] != last[q->test[i].channel])
+            return 1;
+    return 0;
+}
+
 static void clear(const struct plain_pattern *p, int64_t *restrict table)
 {
     for (size_t i = 0; i < p->cells; i++)
@@ -136,15 +145,16 @@ static void move_block(const struct plain_pattern *p, int place, int64_t amount,
 }
 
 /* One tick: `to` becomes the table that follows `from`. In `sum` a place adds its distances when it was just entered, and
- * when the values are new; in `margin` every tick has its say. */
-static void tick(const struct plain_pattern *p, const int64_t *from, int64_t *restrict to, const int64_t *gains, int fresh)
+ * when the values are new to it (`fresh`); in `margin` every tick has its say. */
+static void tick(const struct plain_pattern *p, const int64_t *from, int64_t *restrict to, const int64_t *gains,
+                 const int *fresh)
 {
     clear(p, to);
     for (size_t length = 0; length < p->high; length++)
         for (int stage = 0; stage < 2; stage++)
             for (int place = 0; place < p->places; place++) {
                 const int64_t *block = from + length * p->row + (size_t)(stage * p->places + place) * p->block;
-                int adds = !p->sum || stage == 0 || fresh;
+                int adds = !p->sum || stage == 0 || fresh[place];
 
                 move_block(p, place, adds ? gains[place] : 0, block, to + (length + 1) * p->row);
             }
@@ -226,9 +236,10 @@ uint32_t PLAIN_FEED(const struct plain_pattern *p, int64_t *state, size_t state_
                     const int32_t *values, size_t values_length, int64_t *scores, size_t scores_length,
                     uint32_t *lengths, size_t lengths_length)
 {
+    static const int nowhere[PLACES]; /* from a piece's second tick on its values are new to no place */
     int64_t *from = first, *to = second, *swap;
     int64_t gains[PLACES];
-    int fresh = 0;
+    int fresh[PLACES];
 
     if (state_length < MONITOR_STATE_LENGTH || !state_sound(p, state))
         return STATE_BROKEN;
@@ -243,12 +254,12 @@ uint32_t PLAIN_FEED(const struct plain_pattern *p, int64_t *state, size_t state_
     if (scores_length < duration || lengths_length < duration)
         return REPORTS_TOO_SHORT;
 
-    for (int q = 0; q < p->places; q++)
+    for (int q = 0; q < p->places; q++) {
         gains[q] = gain(p->sum, &p->place[q], values);
-    for (int c = 0; c < p->channels; c++)
-        fresh |= values[c] != state[1 + c];
+        fresh[q] = is_new(&p->place[q], values, state + 1);
+    }
     for (uint32_t t = 0; t < duration; t++) {
-        tick(p, from, to, gains, fresh && t == 0);
+        tick(p, from, to, gains, t == 0 ? fresh : nowhere);
         report(p, to, &scores[t], &lengths[t]);
         swap = from;
         from = to;

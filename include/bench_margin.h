@@ -32,8 +32,9 @@
  *   - A test's distance is the value less the bound for > and >=, the bound less the value for < and <=, and for a band the
  *     smaller of the value less the low and the high less the value; it may be negative. In `margin` a run is worth the least
  *     distance of its stays' tests over the pieces that they touch, and the best run is the one with the greatest score. In
- *     `sum` a run is worth all distances added, once for each piece that a stay touches, and the best run is the one with the
- *     least score. Neighbouring pieces with equal values are one piece.
+ *     `sum` a run is worth all distances added, once for each observation, and the best run is the one with the least score.
+ *     Neighbouring ticks of a stay are one observation while the channels that its place tests keep their values; what other
+ *     channels do makes no difference, and a stay without tests adds 0. How a record is cut into pieces makes none either.
  *   - Only runs whose length is in the window, from its low to its high, count for monitor_feed and record_best.
  *   - The host knows the weighting and the channels from the text's first line: no function tells them.
  *

@@ -118,6 +118,10 @@ fn main() {
         let distances = places[place].1.iter().map(distance);
         if sum { distances.sum() } else { distances.min().unwrap_or(FREE) }
     };
+    // whether each place sees at each tick what it saw the tick before, in the channels that it tests
+    let same = |tick: usize, tests: &[Bounded]| tick > 0 && tests.iter().all(|test| ticks[tick][test.1] == ticks[tick - 1][test.1]);
+    let seen: Vec<Vec<bool>> =
+        (0..ticks.len()).map(|tick| places.iter().map(|(_, tests)| same(tick, tests)).collect()).collect();
     let mut best: Vec<Option<(i64, usize)>> = vec![None; ticks.len() + 1];
     for begin in 0..ticks.len() {
         let mut entered: Vec<Option<i64>> = vec![None; states];
@@ -128,7 +132,6 @@ fn main() {
             }
         }
         for tick in begin..ticks.len().min(begin + high) {
-            let same_piece = tick > 0 && ticks[tick] == ticks[tick - 1];
             let prices: Vec<i64> = (0..places.len()).map(|place| price(place, &ticks[tick])).collect();
             let mut next_entered = vec![None; states];
             let mut next_staying = vec![None; states];
@@ -140,8 +143,9 @@ fn main() {
                     keep(&mut now, if sum { worth + price } else { worth.min(price) });
                 }
                 if let Some(worth) = staying[state] {
-                    // in sum a joined piece counts once for each stay
-                    keep(&mut now, if !sum { worth.min(price) } else if same_piece { worth } else { worth + price });
+                    // in sum what a stay sees counts once, as long as it lasts
+                    let adds = if seen[tick][place_of[state]] { 0 } else { price };
+                    keep(&mut now, if sum { worth + adds } else { worth.min(price) });
                 }
                 let Some(worth) = now else { continue };
                 keep(&mut next_staying[grown[state]], worth);

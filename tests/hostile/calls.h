@@ -38,8 +38,15 @@ enum { BELOW, AT_LOW, INSIDE, AT_HIGH, ABOVE, AT_BOTH, SIDES };
 
 static const char *const side_names[] = {"below", "at low", "inside", "at high", "above", "at both"};
 
+/* how a feed's values differ from the state's last ones: not at all; in no channel that is tested where a run stays; so that all
+ * places where one stays meet something new; or so that one of them does and another does not */
+enum { STILL, UNSEEN, NEW_TO_ALL, NEW_TO_SOME, MOVES };
+
+static const char *const move_names[] = {"none", "unseen", "new to all", "new to some"};
+
 static uint64_t calls, compared, seen[FUNCTIONS][16], shaped[FUNCTIONS][SLICES][SHAPES];
 static uint64_t measured[2][SIDES]; /* by bands, in feeds that are compared: in margin, in sum */
+static uint64_t moved[MOVES];       /* in sum, with two or more channels, in feeds that are compared */
 static uint64_t round_seed;
 static int failures;
 
@@ -203,6 +210,28 @@ static void lend_values(size_t count)
     lend_keep(&values);
 }
 
+/* Which channels move, a bit for each: none, one, or any. */
+static uint64_t moving(size_t channels)
+{
+    int64_t kind = between(0, 3);
+
+    return kind == 0 || channels == 0 ? 0 : kind == 1 ? draw() : UINT64_C(1) << draw() % channels;
+}
+
+/* Puts the state's last values into the piece, but for the channels that move. */
+static void keep_still(void)
+{
+    size_t count = values.count < PATTERN_CHANNELS_MAX ? values.count : PATTERN_CHANNELS_MAX;
+    const int64_t *last = state.at;
+    uint64_t moves = moving(count);
+    int32_t *at = values.at;
+
+    for (size_t i = 0; i < count && i + 1 < state.count; i++)
+        if (!(moves >> i & 1) && in_range(last[1 + i]))
+            at[i] = (int32_t)last[1 + i];
+    lend_keep(&values);
+}
+
 /* Report slices with anything in them. */
 static void lend_reports(size_t m, size_t n)
 {
@@ -324,8 +353,8 @@ static uint32_t record_cause(int function, int channels, uint64_t *ticks)
 
 /* ---- a library that errs in one way, if `wrong` is not 0: the checks below must notice it */
 
-#define WRONG 21
-#define WRONG_FOR_SCORER 22 /* an error that the second scorer's answers must show */
+#define WRONG 23
+#define WRONG_FOR_SCORER 24 /* an error that the second scorer's answers must show */
 
 static int wrong;
 static uint64_t needed; /* cells of the pattern */
@@ -362,6 +391,41 @@ static const uint8_t *low_alone(size_t *length)
     return other;
 }
 
+/* Writes two tests of the first channel that a place does not test, if there is one and room for them. In sum they add up to 0,
+ * so that nothing comes of them but that the place sees this channel. */
+static size_t see_more(const struct plain_place *q, uint8_t *to)
+{
+    int channel = 0, tested = 0;
+
+    for (int i = 0; i < q->tests; i++)
+        tested |= 1 << q->test[i].channel;
+    while (tested >> channel & 1)
+        channel++;
+    if (channel == plain.channels || q->tests > 2)
+        return 0;
+    return (size_t)sprintf((char *)to, " (> %d 0) (< %d 0)", channel, channel);
+}
+
+/* The lent text if it is refused or in margin, and else with these tests in each place. */
+static const uint8_t *see_all(size_t *length)
+{
+    static uint8_t other[PATTERN_TEXT_MAX + PLACES * 20];
+    const uint8_t *at = text.at, *end = at + text.count;
+    int line = 0;
+
+    *length = text.count;
+    if (pattern_check(at, text.count) != 0 || !plain.sum)
+        return at;
+    *length = 0;
+    for (; at < end; at++) {
+        if (line >= 1 && line <= plain.places && end - at > 1 && at[1] == '\n') /* a place's last bracket */
+            *length += see_more(&plain.place[line - 1], other + *length);
+        line += *at == '\n';
+        other[(*length)++] = *at;
+    }
+    return other;
+}
+
 static uint32_t check_lent(void)
 {
     uint32_t r = twisted(pattern_check(text.at, text.count));
@@ -393,7 +457,9 @@ static uint32_t open_lent(void)
 static uint32_t feed_lent(uint32_t duration)
 {
     size_t length = text.count;
-    const uint8_t *bytes = wrong == 20 ? low_alone(&length) : text.at; /* a band's high without a say */
+    const uint8_t *bytes = wrong == 20   ? low_alone(&length) /* a band's high without a say */
+                           : wrong == 22 ? see_all(&length)   /* a twitch that counts where no test sees it */
+                                         : text.at;
     uint32_t r = twisted(monitor_feed(bytes, length, state.at, state.count, first.at, first.count, second.at, second.count,
                                       duration, values.at, values.count, scores.at, scores.count, lengths.at,
                                       lengths.count));
@@ -424,7 +490,7 @@ static uint32_t feed_lent(uint32_t duration)
 static struct run_price price_lent(uint32_t begin)
 {
     size_t length = text.count;
-    const uint8_t *bytes = wrong == 21 ? low_alone(&length) : text.at; /* the same in a price */
+    const uint8_t *bytes = wrong == 21 ? low_alone(&length) : wrong == 23 ? see_all(&length) : text.at; /* both in a price */
     struct run_price a = run_price(bytes, length, durations.at, durations.count, values.at, values.count, begin, edges.at,
                                    edges.count, stays.at, stays.count);
 
@@ -547,6 +613,44 @@ static void count_bands(void)
         }
 }
 
+/* Are there runs that stay in a place and can go on, before the call? */
+static int stayed_in(int place)
+{
+    const int64_t *block = (const int64_t *)first.before + (size_t)(plain.places + place) * plain.block;
+
+    for (uint32_t n = 0; n < plain.high; n++, block += plain.row)
+        for (size_t i = 0; i < plain.block; i++)
+            if (block[i] != CELL_MARK)
+                return 1;
+    return 0;
+}
+
+/* Counts how the piece's values differ from the last ones. A place without tests adds nothing either way, and is not asked. */
+static void count_moves(void)
+{
+    const int64_t *last = (const int64_t *)state.before + 1;
+    const int32_t *value = values.at;
+    int moves = 0, new = 0, old = 0;
+
+    if (!plain.sum || plain.channels < 2)
+        return;
+    for (int c = 0; c < plain.channels; c++)
+        moves |= value[c] != last[c];
+    for (int q = 0; q < plain.places; q++) {
+        const struct plain_place *place = &plain.place[q];
+        int sees = 0;
+
+        if (place->tests == 0 || !stayed_in(q))
+            continue;
+        for (int i = 0; i < place->tests; i++)
+            sees |= value[place->test[i].channel] != last[place->test[i].channel];
+        new |= sees;
+        old |= !sees;
+    }
+    if (new || old)
+        moved[!moves ? STILL : !new ? UNSEEN : old ? NEW_TO_SOME : NEW_TO_ALL]++;
+}
+
 static uint32_t call_feed(const struct known *k, uint32_t duration)
 {
     uint32_t cause = feed_cause(k, duration), refusal;
@@ -590,6 +694,7 @@ static uint32_t call_feed(const struct known *k, uint32_t duration)
     if (beside) {
         compared++;
         count_bands();
+        count_moves();
         expect(alike(&state, plain_state) && alike(&first, plain_first) && alike(&second, plain_second),
                "the plain monitor's state or tables differ");
         expect(alike(&scores, plain_scores) && alike(&lengths, plain_lengths), "the plain monitor's reports differ");

@@ -15,25 +15,32 @@
  *     feeds between, must tell and hold the same; the best of the record must be the best that was told; and for small
  *     ones every run is laid out and priced: each report must be the best price of all runs in the window with that end,
  *     and the least length that has it.
+ * Then some more of both, in sum with several channels, where a piece often moves one of them or none.
  * The last line is `N passed, M failed`: the rounds. Each refusal of each function, each way in which a slice can be too
- * short or too long, and each side of a band must occur; one that does not is a failure more. */
+ * short or too long, each side of a band, and each way in which channels can move that places test must occur; one that does
+ * not is a failure more. */
 #define _DEFAULT_SOURCE
 #include "calls.h"
 
 #define ROUNDS 125
 #define CALLS 600         /* single calls of a round */
 #define BENCHES 8         /* whole benches of a round */
+#define MOVED_CALLS 60    /* single feeds of a round that move few channels */
+#define MOVED_BENCHES 6   /* whole benches that do */
 #define LONG_ROUNDS 100   /* of the longest records and pieces */
 #define CASE_BYTES 40000  /* the longest text of a case */
 
 /* A pattern whose tables can be lent. */
-static void make_fitting(struct pattern *p)
+static void make_lendable(struct pattern *p, int size)
 {
-    int size = once(3) ? MIDDLE : SMALL;
-
     do
         make_pattern(p, size);
     while (p->cells > CELLS - 10);
+}
+
+static void make_fitting(struct pattern *p)
+{
+    make_lendable(p, once(3) ? MIDDLE : SMALL);
 }
 
 /* ---- single calls */
@@ -45,7 +52,8 @@ static void single_open(const struct known *k)
     call_open(k);
 }
 
-static void single_feed(const struct known *k)
+/* Lends all that a feed has, and draws its duration. */
+static uint32_t lend_feed(const struct known *k)
 {
     uint32_t duration = (uint32_t)(once(10) ? wild32() : once(50) ? between(65534, 65536) : between(1, 30));
     size_t room = duration > LONG ? 40 : duration, m = room + (once(3) ? (size_t)between(0, 4) : 0);
@@ -61,7 +69,12 @@ static void single_feed(const struct known *k)
     lend_tables(k->cells, !once(10));
     lend_values(count_values((size_t)k->channels));
     lend_reports(m, n);
-    call_feed(k, duration);
+    return duration;
+}
+
+static void single_feed(const struct known *k)
+{
+    call_feed(k, lend_feed(k));
 }
 
 static void single_price(const struct known *k, const struct pattern *p)
@@ -123,6 +136,21 @@ static void single(void)
     }
 }
 
+/* A feed in sum that moves few of several channels, or none, to tables with anything in them. */
+static void single_moved(void)
+{
+    static struct pattern p;
+    struct known k;
+    uint32_t duration;
+
+    make_lendable(&p, APART);
+    lend_text(p.text, p.length);
+    k = know(&p);
+    duration = lend_feed(&k);
+    keep_still();
+    call_feed(&k, duration);
+}
+
 /* ---- whole benches */
 
 #define PIECES 6
@@ -153,6 +181,18 @@ static void make_bench(struct bench *b, int channels, int64_t most)
         for (int j = 0; j < channels; j++)
             b->sample[i][j] = same ? b->sample[i - 1][j] : once(6) ? 0 : (int32_t)between(-30, 30);
         b->total += b->ticks[i];
+    }
+}
+
+/* Most channels of a piece as in the piece before. */
+static void move_few(struct bench *b, int channels)
+{
+    for (size_t i = 1; i < b->pieces; i++) {
+        uint64_t moves = moving((size_t)channels);
+
+        for (int j = 0; j < channels; j++)
+            if (!(moves >> j & 1))
+                b->sample[i][j] = b->sample[i - 1][j];
     }
 }
 
@@ -322,7 +362,7 @@ static void priced(const struct pattern *p, const struct known *k, const struct 
     }
 }
 
-static void bench(void)
+static void bench(int apart)
 {
     static struct outcome whole, cut;
     static struct pattern p;
@@ -331,10 +371,15 @@ static void bench(void)
     struct bench b;
     uint64_t best_end = 0;
 
-    make_fitting(&p);
+    if (apart)
+        make_lendable(&p, APART);
+    else
+        make_fitting(&p);
     lend_text(p.text, p.length);
     k = know(&p);
     make_bench(&b, p.channels, p.high > 5 ? 12 : 5);
+    if (apart)
+        move_few(&b, p.channels);
     fed(&k, &b, 0, &whole);
     fed(&k, &b, 1, &cut);
     expect(memcmp(whole.state, cut.state, sizeof whole.state) == 0, "cut feeds leave another state");
@@ -442,7 +487,11 @@ static void round_of(uint64_t number)
     for (int i = 0; i < CALLS / 3; i++)
         single();
     for (int i = 0; i < BENCHES; i++)
-        bench();
+        bench(0);
+    for (int i = 0; i < MOVED_CALLS; i++)
+        single_moved();
+    for (int i = 0; i < MOVED_BENCHES; i++)
+        bench(1);
 }
 
 /* How often values lay on each side of bands; how many sides are rare. */
@@ -458,6 +507,23 @@ static int rare_sides(const char *weighting, const uint64_t *times)
         if (times[n] < 20) {
             rare++;
             printf("FAILED: bands in %s, a value %s only %" PRIu64 " times\n", weighting, side_names[n], times[n]);
+        }
+    return rare;
+}
+
+/* The same of the ways in which channels moved. */
+static int rare_moves(void)
+{
+    int rare = 0;
+
+    printf("channels that move, sum");
+    for (int n = 0; n < MOVES; n++)
+        printf(" %s:%" PRIu64, move_names[n], moved[n]);
+    printf("\n");
+    for (int n = 0; n < MOVES; n++)
+        if (moved[n] < 20) {
+            rare++;
+            printf("FAILED: channels that move, %s only %" PRIu64 " times\n", move_names[n], moved[n]);
         }
     return rare;
 }
@@ -555,7 +621,7 @@ int main(int argc, char **argv)
                            shaped[f][(int)*s][n]);
                 }
     }
-    failed += rare_sides("margin", measured[0]) + rare_sides("sum", measured[1]);
+    failed += rare_sides("margin", measured[0]) + rare_sides("sum", measured[1]) + rare_moves();
     if (compared < 10000) {
         failed++;
         printf("FAILED: too few feeds beside the plain monitor\n");

@@ -85,22 +85,22 @@ static void add_test(struct pattern *p, int bands, int most)
 }
 
 /* Small: tables of a few hundred cells and few runs. Middle: many clocks or a wide window. Large: anything that a text can
- * say. */
-enum { SMALL, MIDDLE, LARGE };
+ * say. Apart: small, in sum, with places that test some of several channels. */
+enum { SMALL, MIDDLE, LARGE, APART };
 
 static void make_pattern(struct pattern *p, int size)
 {
-    int large = size == LARGE, middle = size == MIDDLE, bands = (int)between(NO_BANDS, ALL_BANDS);
+    int large = size == LARGE, middle = size == MIDDLE, apart = size == APART, bands = (int)between(NO_BANDS, ALL_BANDS);
     static const char *const kinds[] = {"start", "plain", "end", "both"};
     int largest[4] = {-1, -1, -1, -1};
 
     memset(p, 0, sizeof *p);
-    p->sum = (int)between(0, 1);
-    p->channels = (int)(large ? between(1, 8) : once(8) ? 8 : between(1, 2));
+    p->sum = apart || between(0, 1);
+    p->channels = (int)(apart ? between(2, once(2) ? 8 : 3) : large ? between(1, 8) : once(8) ? 8 : between(1, 2));
     p->clocks = (int)(middle ? between(once(2) ? 3 : 0, 4) : between(0, large ? 4 : 2));
     p->high = (int)between(1, large ? 4095 : middle ? 30 : 5);
     p->low = (int)between(1, large ? p->high : once(3) ? p->high : middle ? (p->high + 1) / 2 : 1);
-    p->places = (int)between(1, large ? 16 : middle ? 6 : 3);
+    p->places = (int)between(apart ? 2 : 1, large ? 16 : middle ? 6 : 3);
     p->edges = (int)between(once(6) ? 0 : 1, large ? 32 : middle ? 12 : 5);
     add(p, "(pattern %s %d %d %d %d)\n", p->sum ? "sum" : "margin", p->channels, p->clocks, p->low, p->high);
     for (int i = 0; i < p->places; i++) {

@@ -1114,6 +1114,10 @@ fn known_cases(random: &mut Random, cases: &mut Cases) {
 /// and above it are all frequent.
 fn band(random: &mut Random, channels: usize, record: &Record) -> String {
     let channel = random.below(channels);
+    band_of(random, channel, record)
+}
+
+fn band_of(random: &mut Random, channel: usize, record: &Record) -> String {
     let near = if record.is_empty() { 0 } else { record[random.below(record.len())].1[channel] };
     let [under, over] = [0; 2].map(|_| random.below(6) as i64);
     let (low, high) = match random.below(12) {
@@ -1594,7 +1598,7 @@ fn changed_bands(random: &mut Random, cases: &mut Cases) {
     }
 }
 
-/// The cases of request R-1. They come last, so the cases before them are those of document 01 alone.
+/// The cases of request R-1. They come after those of document 01 alone.
 fn band_cases(random: &mut Random, cases: &mut Cases) {
     random_bands(random, cases);
     bands_in_refused_cases(random, cases);
@@ -1608,6 +1612,339 @@ fn band_cases(random: &mut Random, cases: &mut Cases) {
     bands_misplaced(random, cases);
     long_bands(cases);
     changed_bands(random, cases);
+}
+
+// ------------------------------------------------------------------------------------------ twitches
+
+/// A record with these values at its ticks, cut where they change and nowhere else.
+fn cut_at_changes(ticks: &[Vec<i64>]) -> Record {
+    let mut record: Record = Vec::new();
+    for values in ticks {
+        match record.last_mut() {
+            Some(last) if last.1 == *values => last.0 += 1,
+            _ => record.push((1, values.clone())),
+        }
+    }
+    record
+}
+
+/// The values at each tick of a record.
+fn each_tick(record: &Record) -> Vec<Vec<i64>> {
+    record.iter().flat_map(|(duration, values)| vec![values.clone(); *duration as usize]).collect()
+}
+
+/// The values of a channel with a pace of its own: it changes at each tick, at each few, or not at all. Mostly
+/// it goes there and back between two values.
+fn set_pace(random: &mut Random, ticks: &mut [Vec<i64>], channel: usize, quick: bool) {
+    let paces = if quick { [1, 1, 2, 3] } else { [2, 4, 5, ticks.len()] };
+    let pace = paces[random.below(4)];
+    let offset = if pace < ticks.len() { random.below(pace) } else { 0 };
+    let from = if random.percent(30) { 0 } else { random.below(13) as i64 - 6 };
+    let way = random.from_to(1, 5) as i64;
+    let values = match random.below(12) {
+        0 => vec![-1_000_000, 1_000_000],
+        1 => vec![from, from + 65_536],
+        2 | 3 => vec![from, from + way, from - 1],
+        _ => vec![from, from + way],
+    };
+    for (tick, sample) in ticks.iter_mut().enumerate() {
+        sample[channel] = values[(tick + offset) / pace % values.len()];
+    }
+}
+
+/// A record of so many ticks, each channel with its pace and one of them quick, and sometimes a tick that
+/// stands out.
+fn twitching(random: &mut Random, channels: usize, quick: usize, count: usize) -> Record {
+    let mut ticks = vec![vec![0; channels]; count];
+    for channel in 0..channels {
+        set_pace(random, &mut ticks, channel, channel == quick);
+    }
+    if random.percent(30) {
+        let value = &mut ticks[random.below(count)][random.below(channels)];
+        *value = (*value + random.from_to(1, 3) as i64).min(1_000_000);
+    }
+    cut_at_changes(&ticks)
+}
+
+/// A test of this channel whose distances are near 0. A band may have the same distance at both of two values,
+/// which are two observations nevertheless.
+fn test_of(random: &mut Random, channel: usize, bands: bool, record: &Record) -> String {
+    let [one, other] = [0; 2].map(|_| record[random.below(record.len())].1[channel]);
+    let bound = |bound: i64| bound.clamp(-1_000_000, 1_000_000);
+    match random.below(10) {
+        0 | 1 | 2 if bands => band_of(random, channel, record),
+        3 | 4 | 5 if bands => {
+            let more = random.below(5) as i64;
+            format!("(in {channel} {} {})", bound(one.min(other) - more), bound(one.max(other) + more))
+        }
+        _ => format!("({} {channel} {})", random.pick(&SIGNS), bound(one + random.below(9) as i64 - 4)),
+    }
+}
+
+/// So many different channels, in any order.
+fn some_channels(random: &mut Random, count: usize, channels: usize) -> Vec<usize> {
+    let mut left: Vec<usize> = (0..channels).collect();
+    (0..count.min(channels)).map(|_| left.remove(random.below(left.len()))).collect()
+}
+
+/// Patterns whose places leave channels out, and how many of them to make. Two numbers are the least and the
+/// most.
+struct Twitch {
+    kind: &'static str,
+    count: usize,
+    channels: [usize; 2],
+    places: [usize; 2],
+    tested: [[usize; 2]; 4], // how many channels a place tests
+    in_turn: bool,           // each place tests a channel of its own
+    twice: bool,             // one of them is tested twice
+    bands: bool,
+    loops: bool,             // several stays in the same place
+}
+
+const ONE_CHANNEL: Twitch = Twitch {
+    kind: "twitch-one-channel",
+    count: 20,
+    channels: [2, 4],
+    places: [2, 4],
+    tested: [[1, 1]; 4],
+    in_turn: false,
+    twice: false,
+    bands: false,
+    loops: false,
+};
+const ONE_OR_TWO: [[usize; 2]; 4] = [[1, 2]; 4];
+const NONE_BETWEEN: [[usize; 2]; 4] = [[1, 1], [0, 0], [1, 1], [0, 0]];
+const TWITCHES: [Twitch; 9] = [
+    ONE_CHANNEL,
+    Twitch { kind: "twitch-two-channels", count: 22, channels: [3, 4], tested: [[2, 2]; 4], ..ONE_CHANNEL },
+    Twitch { kind: "twitch-other-channels", count: 24, places: [3, 4], in_turn: true, ..ONE_CHANNEL },
+    Twitch { kind: "twitch-free-place", count: 18, places: [4, 4], tested: NONE_BETWEEN, ..ONE_CHANNEL },
+    Twitch { kind: "twitch-tested-twice", count: 16, tested: ONE_OR_TWO, twice: true, ..ONE_CHANNEL },
+    Twitch { kind: "twitch-band", count: 26, tested: ONE_OR_TWO, bands: true, ..ONE_CHANNEL },
+    Twitch { kind: "twitch-loop", count: 30, channels: [2, 3], tested: ONE_OR_TWO, loops: true, ..ONE_CHANNEL },
+    Twitch { kind: "twitch-loop-band", count: 10, tested: ONE_OR_TWO, bands: true, loops: true, ..ONE_CHANNEL },
+    Twitch { kind: "twitch-wide", count: 16, channels: [5, 8], tested: [[1, 4]; 4], bands: true, ..ONE_CHANNEL },
+];
+
+impl Twitch {
+    /// The channels of a place's tests, mostly without the quick one.
+    fn tested(&self, random: &mut Random, place: usize, channels: usize, quick: usize) -> Vec<usize> {
+        let [least, most] = self.tested[place];
+        let count = random.from_to(least, most);
+        let mut tested = some_channels(random, count, channels);
+        if tested.contains(&quick) && random.percent(60) {
+            tested = some_channels(random, count, channels);
+        }
+        if self.in_turn {
+            tested[0] = place % channels;
+        }
+        if self.twice {
+            tested.push(tested[0]);
+        }
+        tested
+    }
+
+    /// A way from the first place to the last, and few other edges. Most windows are too long for stays of one
+    /// tick each, so that some stay lasts over a twitch.
+    fn draw(&self, random: &mut Random) -> (Pattern, Record) {
+        let from_to = |random: &mut Random, [least, most]: [usize; 2]| random.from_to(least, most);
+        loop {
+            let channels = from_to(random, self.channels);
+            let (quick, length) = (random.below(channels), random.from_to(6, 10));
+            let record = twitching(random, channels, quick, length);
+            let clocks = if self.loops { random.from_to(1, 2) } else { few(random, [50, 40, 10, 0, 0]) };
+            let count = from_to(random, self.places);
+            let mut places: Vec<(&'static str, Vec<String>)> = Vec::new();
+            for place in 0..count {
+                let kind = if place == 0 { "start" } else if place == count - 1 { "end" } else { "plain" };
+                let tested = self.tested(random, place, channels, quick);
+                let tests = tested.iter().map(|channel| test_of(random, *channel, self.bands, &record));
+                places.push((kind, tests.collect()));
+            }
+            let mut edges: Vec<Edge> = Vec::new();
+            for from in 0..count - 1 {
+                let mut guards = Vec::new();
+                if clocks > 0 && random.percent(40) {
+                    let (sign, bound) = [(">=", 2), (">", 2), ("<=", 3), ("<", 6)][random.below(4)];
+                    guards.push((sign, random.below(clocks), bound));
+                }
+                let resets = (0..clocks).filter(|_| random.percent(50)).collect();
+                edges.push(Edge { from, to: from + 1, guards, resets });
+            }
+            if self.loops {
+                // Stays before the edge back last some ticks.
+                let from = random.below(count - 1);
+                let to = random.from_to(0, from);
+                let guards = vec![(">=", 0, random.from_to(1, 3))];
+                edges.push(Edge { from, to, guards, resets: vec![0] });
+            } else if random.percent(30) {
+                edges.push(edge(random, count, clocks, 3));
+            }
+            let low = if random.percent(15) { 1 } else { random.from_to(count, count + 2) };
+            let high = low + random.from_to(0, 3);
+            let pattern = Pattern { weighting: "sum", channels, clocks, low, high, places, edges };
+            if pattern.cells() <= 2_048 && pattern.cost(ticks(&record)) <= COST / 6.0 {
+                return (pattern, record);
+            }
+        }
+    }
+}
+
+/// Both weightings, and sometimes the sum once more with the record cut elsewhere, which alters nothing.
+fn add_twitches(random: &mut Random, cases: &mut Cases, kind: &str, mut pattern: Pattern, record: &Record) {
+    add_both(cases, kind, pattern.clone(), record);
+    let cut = cut_anew(random, record);
+    if cut != *record && random.percent(60) {
+        pattern.weighting = "sum";
+        cases.add("twitch-cut-anew", "ok", pattern.text(), text(&record_lines(&cut)));
+    }
+}
+
+fn random_twitches(random: &mut Random, cases: &mut Cases) {
+    for shape in &TWITCHES {
+        for _ in 0..shape.count {
+            let (pattern, record) = shape.draw(random);
+            add_twitches(random, cases, shape.kind, pattern, &record);
+        }
+    }
+}
+
+/// A pattern of any shape with one channel more, which no place tests: the answer is the one without it. Its
+/// windows leave out the shortest runs, which see few twitches.
+fn added_channels(random: &mut Random, cases: &mut Cases) {
+    let makers: [Maker; 3] = [|random| small(random, false), timed, |random| with_bands(random, tame)];
+    for turn in 0..36 {
+        let (mut pattern, record) = loop {
+            let (pattern, record) = makers[turn % 3](random);
+            if pattern.high > 2 && ticks(&record) > 5 && pattern.cost(ticks(&record)) <= COST / 6.0 {
+                break (pattern, record);
+            }
+        };
+        pattern.low = pattern.low.max(3);
+        let mut ticks = each_tick(&record);
+        ticks.iter_mut().for_each(|values| values.push(0));
+        set_pace(random, &mut ticks, pattern.channels, true);
+        pattern.channels += 1;
+        add_twitches(random, cases, "twitch-added-channel", pattern, &cut_at_changes(&ticks));
+    }
+}
+
+/// One place that tests one channel while one channel twitches, the same or another.
+fn each_channel(cases: &mut Cases) {
+    let mut pairs: Vec<[usize; 3]> = Vec::new();
+    for channels in 2..=4 {
+        pairs.extend((0..channels * channels).map(|pair| [channels, pair / channels, pair % channels]));
+    }
+    pairs.extend((0..16).map(|pair| [8, pair / 2, (pair / 2 + pair % 2) % 8])); // the same and the next
+    for [channels, tested, twitching] in pairs {
+        let mut ticks = vec![vec![4; channels]; 6];
+        for (tick, value) in [3, 7, 7, 3, 7, 3].into_iter().enumerate() {
+            ticks[tick][twitching] = value;
+        }
+        let record = text(&record_lines(&cut_at_changes(&ticks)));
+        let places = format!("(place start (< {tested} 6))\n(place end)\n");
+        let pattern = format!("(pattern sum {channels} 0 3 4)\n{places}(edge 0 1)\n");
+        cases.add("twitch-each-channel", "ok", &pattern, &record);
+        if channels == 8 {
+            cases.add("twitch-each-channel", "ok", pattern.replacen("sum", "margin", 1), &record);
+        }
+    }
+}
+
+/// Small patterns over two channels. `@` is the weighting.
+const TWO_CHANNELS: [&str; 8] = [
+    // One place, which tests one channel.
+    "(pattern @ 2 0 2 4)\n(place start (< 0 7))\n(place end)\n(edge 0 1)\n",
+    // Two places, which test one each.
+    "(pattern @ 2 0 3 5)\n(place start (< 0 7))\n(place plain (> 1 3))\n(place end)\n(edge 0 1)\n(edge 1 2)\n",
+    // A place without tests between them.
+    "(pattern @ 2 0 4 6)\n(place start (> 1 0))\n(place plain)\n(place plain (>= 0 6))\n(place end)\n\
+     (edge 0 1)\n(edge 1 2)\n(edge 2 3)\n",
+    // One stay after the other in the same place, of 2 ticks at least.
+    "(pattern @ 2 1 3 6)\n(place start (<= 0 4))\n(place end)\n(edge 0 0 (>= 0 2) (reset 0))\n(edge 0 1 (>= 0 2))\n",
+    // To another place and back.
+    "(pattern @ 2 1 4 6)\n(place start (< 0 7))\n(place plain (< 1 3))\n(place end)\n(edge 0 1 (>= 0 2))\n\
+     (edge 1 0 (reset 0))\n(edge 0 2 (>= 0 2))\n",
+    // One place, which tests both.
+    "(pattern @ 2 0 2 5)\n(place start (<= 1 4) (> 0 2))\n(place end)\n(edge 0 1)\n",
+    // Both sides of one channel: in sum they always add up to the same.
+    "(pattern @ 2 0 2 5)\n(place start (> 1 0) (< 1 5))\n(place end)\n(edge 0 1)\n",
+    // A band, with the same distance at 5 and 8.
+    "(pattern @ 2 0 2 5)\n(place both (in 0 4 9))\n(edge 0 0)\n",
+];
+
+/// Values of the two channels, a digit for each tick.
+const THERE_AND_BACK: [[&str; 2]; 5] = [
+    ["555555", "121212"],
+    ["558555", "111111"],
+    ["585588", "121122"],
+    ["558855", "122112"],
+    ["555888", "121222"],
+];
+
+fn digits([one, other]: [&str; 2]) -> Vec<Vec<i64>> {
+    let digit = |byte: u8| i64::from(byte - b'0');
+    one.bytes().zip(other.bytes()).map(|(one, other)| vec![digit(one), digit(other)]).collect()
+}
+
+/// A value and another and the first again: in a channel that is tested and in one that is not.
+fn there_and_back(cases: &mut Cases) {
+    for pattern in TWO_CHANNELS {
+        for values in THERE_AND_BACK {
+            let record = text(&record_lines(&cut_at_changes(&digits(values))));
+            for weighting in ["margin", "sum"] {
+                cases.add("twitch-there-and-back", "ok", pattern.replacen('@', weighting, 1), &record);
+            }
+        }
+    }
+}
+
+/// One record, cut in every way where nothing changes: the answer is the same each time.
+fn twitches_at_cuts(cases: &mut Cases) {
+    let ticks = digits(["5555888", "1122211"]);
+    let mut free: Vec<usize> = (1..ticks.len()).collect();
+    free.retain(|at| ticks[at - 1] == ticks[*at]);
+    for pattern in [0, 1, 3, 4].map(|at: usize| TWO_CHANNELS[at]) {
+        for chosen in 0..1 << free.len() {
+            let mut record: Record = Vec::new();
+            for (at, values) in ticks.iter().enumerate() {
+                let cut = free.iter().position(|other| *other == at).is_none_or(|bit| chosen >> bit & 1 == 1);
+                match record.last_mut() {
+                    Some(last) if !cut => last.0 += 1,
+                    _ => record.push((1, values.clone())),
+                }
+            }
+            cases.add("twitch-at-cuts", "ok", pattern.replacen('@', "sum", 1), text(&record_lines(&record)));
+        }
+    }
+}
+
+/// The worked examples with more than one channel, one of which twitches at each second or third tick.
+fn example_twitches(cases: &mut Cases) {
+    for (example, lines) in &EXAMPLES[1..] {
+        let numbers = |line: &str| line.trim_matches(['(', ')']).split(' ').flat_map(str::parse).collect::<Vec<i64>>();
+        let record: Record = lines.lines().map(numbers).map(|piece| (piece[0] as u64, piece[1..].to_vec())).collect();
+        for channel in 0..record[0].1.len() {
+            for pace in [2, 3] {
+                let mut ticks = each_tick(&record);
+                ticks.iter_mut().skip(1).step_by(pace).for_each(|values| values[channel] += 1);
+                let record = text(&record_lines(&cut_at_changes(&ticks)));
+                for weighting in ["margin", "sum"] {
+                    cases.add("twitch-example", "ok", example.replacen('@', weighting, 1), &record);
+                }
+            }
+        }
+    }
+}
+
+/// The cases of request R-3. They come last, so the cases before them are what they were.
+fn twitch_cases(random: &mut Random, cases: &mut Cases) {
+    each_channel(cases);
+    there_and_back(cases);
+    twitches_at_cuts(cases);
+    example_twitches(cases);
+    random_twitches(random, cases);
+    added_channels(random, cases);
 }
 
 fn stop(message: &str) -> ! {
@@ -1658,6 +1995,7 @@ fn main() {
     random_cases(&mut random, &mut cases);
     faulty_cases(&mut random, &mut cases);
     band_cases(&mut random, &mut cases);
+    twitch_cases(&mut random, &mut cases);
     for (kind, count) in &cases.kinds {
         println!("{count:6}  {kind}");
     }

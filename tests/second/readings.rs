@@ -1,10 +1,10 @@
-//! Readings of document 01 (the scope paper): the right one, which answers as `scorer.rs` does, and 47 wrong
+//! Readings of document 01 (the scope paper): the right one, which answers as `scorer.rs` does, and 63 wrong
 //! ones, for the statistics.
 //!
-//! Written from document 01 and the decisions recorded beside it, and for the bands from request R-1, and from
-//! nothing else. It shares no code with the product or with `scorer.rs`. It has no tables, no ceilings of
-//! clocks and no states that stand for many runs: each run is a begin, its edges and its stays, listed and
-//! priced alone. Quoted sentences are document 01's.
+//! Written from document 01 and the decisions recorded beside it, for the bands from request R-1 and for the
+//! observations of sum from R-3, and from nothing else. It shares no code with the product or with
+//! `scorer.rs`. It has no tables, no ceilings of clocks and no states that stand for many runs: each run is a
+//! begin, its edges and its stays, listed and priced alone. Quoted sentences are document 01's.
 //!
 //!     readings DIR                         answer for DIR/pattern.txt and DIR/record.txt
 //!     readings --many CASES --answers OUT  the answer to each case, into OUT/NUMBER
@@ -130,6 +130,10 @@ struct Place {
 }
 
 impl Place {
+    fn tests_channel(&self, channel: usize) -> bool {
+        self.tests.iter().any(|test| test.channel == channel)
+    }
+
     /// Each band of the place: the tests before it, its channel, its low and its high.
     fn bands(&self) -> impl Iterator<Item = (usize, usize, i64, i64)> {
         self.tests.iter().enumerate().filter_map(|(at, test)| match test.against {
@@ -430,11 +434,11 @@ fn read_record(text: &[u8], channels: usize) -> Result<Vec<Piece>, u8> {
 }
 
 /// "Neighbouring pieces with equal values in every channel are one piece".
-fn joined(record: &[Piece], equal: impl Fn(&Piece, &Piece) -> bool) -> Vec<Piece> {
+fn joined(record: &[Piece]) -> Vec<Piece> {
     let mut pieces: Vec<Piece> = Vec::new();
     for piece in record {
         match pieces.last_mut() {
-            Some(last) if equal(last, piece) => last.to = piece.to,
+            Some(last) if last.values == piece.values => last.to = piece.to,
             _ => pieces.push(piece.clone()),
         }
     }
@@ -454,8 +458,7 @@ enum Slip {
     ResetBeforeGuards,   // "Resetting before the guards are tried."
     EndPlaceTests,       // "Giving an end place's own tests a say in the last step."
     CutsCount,           // "Counting a piece anew because it came in two calls."
-    JoinsTestedOnly,     // joins pieces that differ only in channels without a test
-    PieceCountsOnce,     // in sum, a piece that the stay before touched too does not count again
+    PieceCountsOnce,     // in sum, an observation that the stay before had a part of does not count again
     FirstPieceOnly,      // a stay is priced by the first piece it touches
     LastPieceOnly,       // a stay is priced by the last piece it touches
     FirstTestOnly,       // a stay is priced by its first test
@@ -485,6 +488,24 @@ enum Slip {
     BandNearerEnd,       // how far the nearer end is, outside too
     BandByMiddle,        // half the width less the way to the middle, each in whole numbers
     BandOfChannel0,      // the value is that of channel 0
+    // Of which ticks are one observation in sum (R-3):
+    JoinsWholeSample,    // those that agree in every channel, tested or not
+    JoinsByAnyPlace,     // those that agree in every channel that some place tests
+    JoinsByStartPlace,   // the channels are those of the place where the run begins
+    JoinsByPlaceEntered, // they are those of the place that the stay's edge enters
+    JoinsByFirstTest,    // the channel of the place's first test alone is looked at
+    JoinsByLastTest,     // that of its last test alone
+    JoinsByOneTest,      // to agree in one tested channel is enough
+    JoinsWithoutBands,   // a channel that only bands test is not looked at
+    JoinsEachTest,       // each test is joined alone, by its own channel
+    JoinsDistances,      // those at which each test has the same distance
+    JoinsTotals,         // those at which the distances add up to the same
+    JoinsApart,          // those that agree, with other ticks between them too
+    JoinsToFirstTick,    // those that agree with the stay's first tick; any other counts alone
+    GoesOnInPlace,       // an observation goes on into the next stay if the place is the same
+    GoesOnAfterReturn,   // it goes on even when the run comes back to the place
+    FreeStayAddsOne,     // a place without tests adds 1 for each joined piece
+    FreeStayAddsFar,     // it adds 2000001
     // Of how a band is read (R-1):
     BandIsTwoTests,      // it counts twice among a place's tests
     BandIsNoTest,        // it does not count among them
@@ -499,14 +520,13 @@ enum Slip {
     LowAboveHighAfter5,  // it is refused with 3, but after an index that the pattern lacks
 }
 
-const SLIPS: [Slip; 29] = [
+const SLIPS: [Slip; 28] = [
     Slip::EveryTickCounts,
     Slip::CeilingAtBound,
     Slip::EdgesWithoutStay,
     Slip::ResetBeforeGuards,
     Slip::EndPlaceTests,
     Slip::CutsCount,
-    Slip::JoinsTestedOnly,
     Slip::PieceCountsOnce,
     Slip::FirstPieceOnly,
     Slip::LastPieceOnly,
@@ -540,6 +560,27 @@ const BAND_SLIPS: [Slip; 7] = [
     Slip::BandNearerEnd,
     Slip::BandByMiddle,
     Slip::BandOfChannel0,
+];
+
+/// Those that make no difference in margin.
+const SUM_SLIPS: [Slip; 17] = [
+    Slip::JoinsWholeSample,
+    Slip::JoinsByAnyPlace,
+    Slip::JoinsByStartPlace,
+    Slip::JoinsByPlaceEntered,
+    Slip::JoinsByFirstTest,
+    Slip::JoinsByLastTest,
+    Slip::JoinsByOneTest,
+    Slip::JoinsWithoutBands,
+    Slip::JoinsEachTest,
+    Slip::JoinsDistances,
+    Slip::JoinsTotals,
+    Slip::JoinsApart,
+    Slip::JoinsToFirstTick,
+    Slip::GoesOnInPlace,
+    Slip::GoesOnAfterReturn,
+    Slip::FreeStayAddsOne,
+    Slip::FreeStayAddsFar,
 ];
 
 /// Those that make a difference only in whether a text is refused, and with which number.
@@ -583,6 +624,10 @@ struct Scorer<'a> {
     pattern: &'a Pattern,
     /// The joined pieces.
     pieces: Vec<Piece>,
+    /// For each place and piece, whether a stay there that has seen the piece before begins a new observation.
+    anew: Vec<Vec<bool>>,
+    /// For the statistics: how many pieces before this one a stay of a run has seen in that place, at most.
+    seen_before: Vec<Vec<usize>>,
     total: u64,
     slip: Slip,
     /// The best run for each end that has one.
@@ -694,6 +739,9 @@ impl Scorer<'_> {
     /// the least length among those with that score".
     fn take_run(&mut self, begin: u64, end: u64, stays: &[Stay], entered: usize) {
         self.runs += 1;
+        if self.slip(Slip::Right) {
+            self.note_pieces(stays);
+        }
         let score = self.price(stays, entered, end);
         let length = end - begin; // "A run's length is its end minus its begin."
         let this = Best { score, length, runs: 1, other_lengths: false, stays: stays.len() };
@@ -705,7 +753,7 @@ impl Scorer<'_> {
         let kept = if self.is_better(score, best.score) {
             this
         } else if score != best.score {
-            best
+            return;
         } else if length == best.length {
             Best { runs: best.runs + 1, ..best }
         } else if (length < best.length) != greatest_length {
@@ -721,52 +769,150 @@ impl Scorer<'_> {
         if self.pattern.sum && !self.slip(Slip::GreatestSum) { score < other } else { score > other }
     }
 
+    fn note_pieces(&mut self, stays: &[Stay]) {
+        for stay in stays {
+            for (before, piece) in self.touched(stay).enumerate() {
+                let most = &mut self.seen_before[stay.place][piece];
+                *most = before.max(*most);
+            }
+        }
+    }
+
     /// Margin: a run is worth "the least of its stays". Sum: "a run adds its stays". The end place that
     /// the last edge enters is no stay of the run, so its tests say nothing.
     fn price(&self, stays: &[Stay], entered: usize, end: u64) -> i64 {
-        let begin = stays[0].from;
-        let priced = if self.slip(Slip::LastStayOnly) { &stays[stays.len() - 1..] } else { stays };
-        let worths = priced.iter().map(|stay| self.worth(stay, begin));
+        let first = if self.slip(Slip::LastStayOnly) { stays.len() - 1 } else { 0 };
+        let worths = (first..stays.len()).map(|at| self.worth(stays, at, entered));
         let score = if self.pattern.sum { worths.sum() } else { worths.min().unwrap_or(FREE) };
         if !self.slip(Slip::EndPlaceTests) {
             return score;
         }
-        let more = self.worth(&Stay { place: entered, from: end - 1, to: end }, begin);
+        let more = self.worth(&[Stay { place: entered, from: end - 1, to: end }], 0, entered);
         if self.pattern.sum { score + more } else { score.min(more) }
     }
 
-    /// "In margin a stay is worth the least distance over its tests and the pieces it touches [...]. In
-    /// sum a stay adds up the distances of all its tests, once per joined piece it touches".
-    fn worth(&self, stay: &Stay, begin: u64) -> i64 {
+    /// What one of the stays is worth. "In margin a stay is worth the least distance over its tests and the
+    /// pieces it touches". In sum it adds up the distances of all its tests, once per observation (R-3); where
+    /// there are no tests, nothing is added.
+    fn worth(&self, stays: &[Stay], at: usize, entered: usize) -> i64 {
+        let stay = &stays[at];
         let tests = &self.pattern.places[stay.place].tests;
         let tests = if self.slip(Slip::FirstTestOnly) { &tests[..tests.len().min(1)] } else { tests };
-        let (mut least, mut added) = (FREE, 0);
-        if self.slip(Slip::FreeStayIsZero) && tests.is_empty() {
-            least = 0;
+        let touched = self.touched(stay);
+        if tests.is_empty() {
+            return match self.slip {
+                Slip::FreeStayAddsOne if self.pattern.sum => touched.len() as i64,
+                Slip::FreeStayAddsFar => FREE,
+                Slip::FreeStayIsZero => 0,
+                _ if self.pattern.sum => 0,
+                _ => FREE,
+            };
         }
-        for piece in self.touched(stay) {
-            if self.slip(Slip::PieceCountsOnce) && piece.from < stay.from && stay.from > begin {
-                continue;
-            }
-            let ticks = piece.to.min(stay.to) - piece.from.max(stay.from);
-            let times = if self.slip(Slip::EveryTickCounts) { ticks as i64 } else { 1 };
+        let distance = |test: &Test, piece: usize| self.distance(test, &self.pieces[piece].values);
+        if !self.pattern.sum {
+            let least = |piece| tests.iter().map(|test| distance(test, piece)).min();
+            return touched.filter_map(least).min().unwrap_or(FREE);
+        }
+        let first = touched.start;
+        let mut added = 0;
+        for piece in touched {
+            let times = self.times(stays, at, entered, first, piece);
             for test in tests {
-                let distance = self.distance(test, &piece.values);
-                least = least.min(distance);
-                added += distance * times;
+                let times = match self.slip {
+                    Slip::JoinsEachTest if piece > first => self.changes(piece, test.channel) as i64,
+                    _ => times,
+                };
+                if times > 0 {
+                    added += distance(test, piece) * times;
+                }
             }
         }
-        if self.pattern.sum { added } else { least }
+        added
     }
 
     /// The joined pieces that share a tick with the stay. ("Tick t runs from time t to t + 1.")
-    fn touched(&self, stay: &Stay) -> &[Piece] {
+    fn touched(&self, stay: &Stay) -> std::ops::Range<usize> {
         let first = self.pieces.partition_point(|piece| piece.to <= stay.from);
-        let behind = self.pieces.partition_point(|piece| piece.from < stay.to).max(first);
+        let behind = first + self.pieces[first..].iter().take_while(|piece| piece.from < stay.to).count();
         match self.slip {
-            Slip::FirstPieceOnly => &self.pieces[first..behind.min(first + 1)],
-            Slip::LastPieceOnly => &self.pieces[first.max(behind.saturating_sub(1))..behind],
-            _ => &self.pieces[first..behind],
+            Slip::FirstPieceOnly => first..behind.min(first + 1),
+            Slip::LastPieceOnly => first.max(behind.saturating_sub(1))..behind,
+            _ => first..behind,
+        }
+    }
+
+    /// How many observations a stay, the first of whose pieces is given, makes of one of its pieces: one at
+    /// the stay's first tick and wherever a tick differs from its neighbour in a channel that the place tests.
+    fn times(&self, stays: &[Stay], at: usize, entered: usize, first: usize, piece: usize) -> i64 {
+        let stay = &stays[at];
+        let ticks = || {
+            let Piece { from, to, .. } = self.pieces[piece];
+            (to.min(stay.to) - from.max(stay.from)) as i64
+        };
+        let counts = match self.slip {
+            Slip::EveryTickCounts => return ticks(),
+            Slip::PieceCountsOnce | Slip::GoesOnInPlace | Slip::GoesOnAfterReturn if piece == first => {
+                !self.goes_on(stays, at, piece)
+            }
+            Slip::JoinsToFirstTick if piece > first => {
+                return if self.agree(stay.place, first, piece) { 0 } else { ticks() };
+            }
+            Slip::JoinsApart => !(first..piece).any(|before| self.agree(stay.place, before, piece)),
+            Slip::JoinsByStartPlace => piece == first || self.anew[stays[0].place][piece],
+            Slip::JoinsByPlaceEntered => {
+                let next = stays.get(at + 1).map_or(entered, |next| next.place);
+                piece == first || self.anew[next][piece]
+            }
+            _ => piece == first || self.anew[stay.place][piece],
+        };
+        counts as i64
+    }
+
+    /// For the slips that let an observation go on from an earlier stay: whether the first piece of a stay
+    /// does so.
+    fn goes_on(&self, stays: &[Stay], at: usize, first: usize) -> bool {
+        let place = stays[at].place;
+        let earlier = match self.slip {
+            Slip::GoesOnAfterReturn => stays[..at].iter().rfind(|stay| stay.place == place),
+            Slip::GoesOnInPlace => stays[..at].last().filter(|stay| stay.place == place),
+            _ => stays[..at].last(),
+        };
+        let last = |stay: &Stay| self.touched(stay).last();
+        earlier.and_then(last).is_some_and(|last| self.agree(place, last, first))
+    }
+
+    /// Whether the values of a channel change from the piece before to this one.
+    fn changes(&self, piece: usize, channel: usize) -> bool {
+        self.pieces[piece - 1].values[channel] != self.pieces[piece].values[channel]
+    }
+
+    /// Whether two pieces have the same values in all channels that a place tests.
+    fn agree(&self, place: usize, one: usize, other: usize) -> bool {
+        let (one, other) = (&self.pieces[one].values, &self.pieces[other].values);
+        self.pattern.places[place].tests.iter().all(|test| one[test.channel] == other[test.channel])
+    }
+
+    /// Whether a stay in a place that has seen the piece before begins a new observation with this one.
+    fn begins_anew(&self, place: usize, piece: usize) -> bool {
+        let tests = &self.pattern.places[place].tests;
+        let differs = |test: &Test| self.changes(piece, test.channel);
+        let [before, now] = [piece - 1, piece].map(|at| &self.pieces[at].values);
+        let total = |values: &[i64]| tests.iter().map(|test| self.distance(test, values)).sum::<i64>();
+        match self.slip {
+            _ if tests.is_empty() => false,
+            Slip::CutsCount | Slip::JoinsWholeSample => true,
+            Slip::JoinsByAnyPlace => self.pattern.places.iter().any(|place| place.tests.iter().any(differs)),
+            Slip::JoinsByFirstTest => tests.first().is_some_and(differs),
+            Slip::JoinsByLastTest => tests.last().is_some_and(differs),
+            Slip::JoinsByOneTest => tests.iter().all(differs),
+            Slip::JoinsWithoutBands => {
+                tests.iter().any(|test| matches!(test.against, Against::Bound(..)) && differs(test))
+            }
+            Slip::JoinsDistances => {
+                tests.iter().any(|test| self.distance(test, before) != self.distance(test, now))
+            }
+            Slip::JoinsTotals => total(before) != total(now),
+            _ => tests.iter().any(differs),
         }
     }
 
@@ -835,19 +981,21 @@ impl Scorer<'_> {
     }
 }
 
-fn score<'a>(pattern: &'a Pattern, record: &[Piece], slip: Slip) -> Scorer<'a> {
-    let tested = |channel: &usize| {
-        pattern.places.iter().any(|place| place.tests.iter().any(|test| test.channel == *channel))
-    };
-    let pieces = match slip {
-        Slip::CutsCount => record.to_vec(),
-        Slip::JoinsTestedOnly => joined(record, |one, other| {
-            (0..pattern.channels).filter(tested).all(|channel| one.values[channel] == other.values[channel])
-        }),
-        _ => joined(record, |one, other| one.values == other.values),
-    };
+/// A reading that has not listed the runs yet.
+fn scorer<'a>(pattern: &'a Pattern, record: &[Piece], slip: Slip) -> Scorer<'a> {
+    let pieces = if slip == Slip::CutsCount { record.to_vec() } else { joined(record) };
+    let seen_before = vec![vec![0; pieces.len()]; pattern.places.len()];
     let total = record.last().map_or(0, |piece| piece.to);
-    let mut scorer = Scorer { pattern, pieces, total, slip, ends: BTreeMap::new(), runs: 0, steps: 0 };
+    let (anew, ends) = (Vec::new(), BTreeMap::new());
+    let mut scorer = Scorer { pattern, pieces, anew, seen_before, total, slip, ends, runs: 0, steps: 0 };
+    let begins_anew = |place, piece| piece == 0 || scorer.begins_anew(place, piece);
+    let of_place = |place| (0..scorer.pieces.len()).map(|piece| begins_anew(place, piece)).collect();
+    scorer.anew = (0..pattern.places.len()).map(of_place).collect();
+    scorer
+}
+
+fn score<'a>(pattern: &'a Pattern, record: &[Piece], slip: Slip) -> Scorer<'a> {
+    let mut scorer = scorer(pattern, record, slip);
     scorer.list_every_run();
     scorer
 }
@@ -992,7 +1140,8 @@ fn must_occur() -> Vec<String> {
         names.push(format!("answered with a run, a guard with {sign}"));
     }
     names.extend(bands_must_occur());
-    let slips = SLIPS.iter().chain(&BAND_SLIPS).chain(&TEXT_SLIPS);
+    names.extend(twitches_must_occur());
+    let slips = SLIPS.iter().chain(&BAND_SLIPS).chain(&SUM_SLIPS).chain(&TEXT_SLIPS);
     names.extend(slips.map(|slip| format!("told apart: {slip:?}")));
     names
 }
@@ -1046,6 +1195,36 @@ fn bands_must_occur() -> Vec<String> {
     }
     names
 }
+
+/// The same of twitches (R-3): of a change from one piece to the next within a stay of some run. Where nothing
+/// else is said, the stay's place has tests.
+fn twitches_must_occur() -> Vec<String> {
+    let mut names = vec![SUM_CASE.to_string(), SUM_CASE_OTHERWISE.to_string()];
+    for weighting in ["margin", "sum"] {
+        let mut must = |name: &str| names.push(format!("twitch: {weighting}, {name}"));
+        must("at a place without tests");
+        must("tested channels only");
+        must("untested channels only");
+        must("tested and untested channels at once");
+        must("new to one place and not to another");
+        must("tested channels, there and back");
+        must("untested channels, there and back");
+        must("untested channels only, beside a cut without a change");
+        must("untested channels only, in a record cut anew");
+        must("untested channels only, at a place with a band");
+        must("untested channels only, at a place with two tests of one channel");
+        must("the channel of a band");
+        (1..=4).for_each(|test| must(&format!("of the tested channels only that of test {test}")));
+        (0..8).for_each(|channel| must(&format!("channel {channel} only, tested")));
+        (0..8).for_each(|channel| must(&format!("channel {channel} only, untested")));
+        (2..=8).for_each(|channels| must(&format!("untested channels only, of {channels} in all")));
+    }
+    names
+}
+
+/// The sums among the cases made for R-3, and those of them that it makes a difference to.
+const SUM_CASE: &str = "twitch: a sum of these kinds";
+const SUM_CASE_OTHERWISE: &str = "twitch: a sum of these kinds, with another answer by the whole sample";
 
 fn sign_text(sign: Sign) -> &'static str {
     match sign {
@@ -1131,6 +1310,90 @@ fn bands_answered(pattern: &Pattern, record: &[Piece]) -> Vec<String> {
         }
     }
     seen
+}
+
+/// What a case that is answered with a run shows of twitches.
+fn twitches_answered(case: &Case, record: &[Piece], right: &Scorer) -> Vec<String> {
+    let (pattern, pieces) = (right.pattern, &right.pieces);
+    let mut seen = Vec::new();
+    let mut see = |occurs: bool, name: &str| {
+        if occurs {
+            seen.push(format!("twitch: {}, {name}", if pattern.sum { "sum" } else { "margin" }));
+        }
+    };
+    // With one channel, a place with tests leaves none out.
+    let twitches = if pattern.channels > 1 { 1..pieces.len() } else { 0..0 };
+    for at in twitches {
+        let crossed = |place: &usize| right.seen_before[*place][at] > 0;
+        let crossed: Vec<usize> = (0..pattern.places.len()).filter(crossed).collect();
+        let with_tests = |place: &&usize| !pattern.places[**place].tests.is_empty();
+        let [new, old] = [true, false]
+            .map(|anew| crossed.iter().filter(with_tests).any(|place| right.anew[*place][at] == anew));
+        see(new && old, "new to one place and not to another");
+        let now = &pieces[at].values;
+        let cut = pieces[at - 1..=at].iter().any(|piece| {
+            record.iter().any(|part| piece.from < part.to && part.to < piece.to)
+        });
+        let changed = |channel: &usize| right.changes(at, *channel);
+        let changed: Vec<usize> = (0..pattern.channels).filter(changed).collect();
+        for number in crossed {
+            let place = &pattern.places[number];
+            if place.tests.is_empty() {
+                see(true, "at a place without tests");
+                continue;
+            }
+            let (tested, untested): (Vec<usize>, Vec<usize>) =
+                changed.iter().partition(|channel| place.tests_channel(**channel));
+            see(untested.is_empty(), "tested channels only");
+            see(!tested.is_empty() && !untested.is_empty(), "tested and untested channels at once");
+            let before = (right.seen_before[number][at] > 1).then(|| &pieces[at - 2].values);
+            let back = |channel: &usize| before.is_some_and(|values| values[*channel] == now[*channel]);
+            see(tested.iter().any(back), "tested channels, there and back");
+            see(untested.iter().any(back), "untested channels, there and back");
+            see(place.bands().any(|(_, channel, ..)| tested.contains(&channel)), "the channel of a band");
+            if let [channel] = changed[..] {
+                let name = if tested.is_empty() { "untested" } else { "tested" };
+                see(true, &format!("channel {channel} only, {name}"));
+            }
+            let with_others = tested.len() == 1 && place.tests.iter().any(|test| test.channel != tested[0]);
+            for (test, Test { channel, .. }) in (1..).zip(&place.tests) {
+                let this = with_others && tested[0] == *channel;
+                see(this, &format!("of the tested channels only that of test {test}"));
+            }
+            if tested.is_empty() {
+                let mut see = |occurs: bool, name: &str| see(occurs, &format!("untested channels only{name}"));
+                see(true, "");
+                see(true, &format!(", of {} in all", pattern.channels));
+                see(cut, ", beside a cut without a change");
+                see(case.kind.ends_with("cut-anew"), ", in a record cut anew");
+                see(place.bands().next().is_some(), ", at a place with a band");
+                let tests = |channel| place.tests.iter().filter(|test| test.channel == channel).count();
+                let twice = (0..pattern.channels).any(|channel| tests(channel) > 1);
+                see(twice, ", at a place with two tests of one channel");
+            }
+        }
+    }
+    seen
+}
+
+/// Whether the runs need be listed under a slip of sums: not if the case lacks what the slip is about.
+fn may_tell(record: &[Piece], right: &Scorer, slip: Slip) -> bool {
+    let (places, edges) = (&right.pattern.places, &right.pattern.edges);
+    let other_channel = |place: &Place| place.tests.iter().any(|test| test.channel != place.tests[0].channel);
+    let most_before = right.seen_before.iter().flatten().max().copied().unwrap_or(0);
+    match slip {
+        Slip::FreeStayAddsOne | Slip::FreeStayAddsFar => places.iter().any(|place| place.tests.is_empty()),
+        Slip::GoesOnInPlace => edges.iter().any(|edge| edge.to == edge.from),
+        Slip::GoesOnAfterReturn => edges.iter().any(|edge| edge.to <= edge.from),
+        Slip::JoinsApart => most_before > 1,
+        _ if most_before == 0 => false,
+        Slip::JoinsToFirstTick => true,
+        Slip::JoinsEachTest => places.iter().any(other_channel),
+        Slip::JoinsByStartPlace | Slip::JoinsByPlaceEntered => {
+            right.anew.iter().any(|of_place| *of_place != right.anew[0])
+        }
+        _ => scorer(right.pattern, record, slip).anew != right.anew,
+    }
 }
 
 /// What one case shows, each thing once.
@@ -1231,6 +1494,7 @@ fn seen_in(case: &Case) -> (Vec<String>, u64, u64) {
                 }
             }
             bands_answered(pattern, record).iter().for_each(|name| see(true, name));
+            twitches_answered(case, record, &right).iter().for_each(|name| see(true, name));
             for edge in &pattern.edges {
                 see(true, &format!("answered with a run, an edge with {} guards", edge.guards.len()));
                 see(true, &format!("answered with a run, an edge with {} resets", edge.resets.len()));
@@ -1243,9 +1507,15 @@ fn seen_in(case: &Case) -> (Vec<String>, u64, u64) {
         // Where even the right listing takes long, the slips are not tried.
         let cheap = right.steps + right.total <= SLIP_STEPS;
         let slips = SLIPS.iter().chain(BAND_SLIPS.iter().filter(|_| bands));
+        let in_sum = SUM_SLIPS.iter().filter(|slip| pattern.sum && may_tell(record, &right, **slip));
+        let slips = slips.chain(in_sum);
+        let twitch = pattern.sum && case.kind.starts_with("twitch");
+        see(twitch, SUM_CASE);
         for &slip in slips.filter(|_| cheap) {
             let wrong = score(pattern, record, slip);
-            see(!wrong.given_up() && wrong.print() != printed, &format!("told apart: {slip:?}"));
+            let told = !wrong.given_up() && wrong.print() != printed;
+            see(told, &format!("told apart: {slip:?}"));
+            see(told && twitch && slip == Slip::JoinsWholeSample, SUM_CASE_OTHERWISE);
         }
     }
     let meets_expectation = match (&case.expected[..], refused) {
@@ -1287,6 +1557,10 @@ fn statistics(cases: &[Case]) -> bool {
             println!("         ^ never occurs");
             well = false;
         }
+    }
+    if counts[SUM_CASE_OTHERWISE] * 3 < counts[SUM_CASE] {
+        println!("         ^ R-3 makes a difference in fewer than a third of its sums");
+        well = false;
     }
     for (kind, results) in kinds {
         let results: Vec<String> = results.iter().map(|(result, count)| format!("{count} {result}")).collect();

@@ -1,11 +1,11 @@
 // A second scorer for the program `watch` of document 01 (bench margin monitor).
 //
-// It was written from document 01, and from R-1 of document 02 for bands, by
-// hands that had not seen the product's code. It has no monitor, no tables and
-// no ceilings: for every end it lists every run with real clocks, prices each
-// one by the pricing rule, and keeps the best, of equals the shortest. It is
-// meant to be plainly right, and is fast enough only for small windows and
-// patterns.
+// It was written from document 01, and from document 02 for bands and for
+// what a sum counts once, by hands that had not seen the product's code.
+// It has no monitor, no tables and no ceilings: for every end it lists every run
+// with real clocks, prices each one by the pricing rule, and keeps the best, of
+// equals the shortest. It is meant to be plainly right, and is fast enough only
+// for small windows and patterns.
 //
 // Use: scorer [folder]. The folder holds pattern.txt and record.txt.
 //      scorer --many folders out. Each folder in `folders` so; its answer goes
@@ -419,7 +419,9 @@ fn read_edge_line(mut line: Line, pattern: &Pattern) -> Result<Edge, Refusal> {
 // Record
 // ---------------------------------------------------------------------------
 
-/// A joined piece: its values hold from time `from` to time `until`.
+/// A piece as the record has it: its values hold from time `from` to time
+/// `until`. Equal neighbours stay apart here: no least distance changes by that
+/// (document 01), and sums join within each stay.
 struct Piece {
     from: i64,
     until: i64,
@@ -440,7 +442,7 @@ fn read_record(text: &[u8], channels: usize) -> Result<Vec<Piece>, Refusal> {
         read.push(read_piece_line(take_line(&mut text)?)?);
     }
     judge_record(&read, channels)?;
-    Ok(join(read))
+    Ok(with_times(read))
 }
 
 /// The form of one line of the record.
@@ -478,19 +480,16 @@ fn judge_record(pieces: &[(i64, Vec<i64>)], channels: usize) -> Result<(), Refus
     Ok(())
 }
 
-/// Neighbouring pieces with equal values in every channel are one piece.
-fn join(pieces: Vec<(i64, Vec<i64>)>) -> Vec<Piece> {
-    let mut joined: Vec<Piece> = Vec::new();
+/// Each piece begins where the one before it ends, the first at time 0.
+fn with_times(pieces: Vec<(i64, Vec<i64>)>) -> Vec<Piece> {
+    let mut record: Vec<Piece> = Vec::new();
     let mut now: i64 = 0;
     for (duration, values) in pieces {
         let from = now;
         now += duration;
-        match joined.last_mut() {
-            Some(before) if before.values == values => before.until = now,
-            _ => joined.push(Piece { from, until: now, values }),
-        }
+        record.push(Piece { from, until: now, values });
     }
-    joined
+    record
 }
 
 /// The record's end: the total of its durations.
@@ -593,24 +592,42 @@ fn distance(test: &Test, values: &[i64]) -> i64 {
     }
 }
 
-/// The joined pieces that a stay touches: those that share a tick with it.
+/// The pieces that a stay touches: those that share a tick with it.
 fn touched(record: &[Piece], from: i64, until: i64) -> &[Piece] {
     let first = record.partition_point(|piece| piece.until <= from);
     let after = record.partition_point(|piece| piece.from < until);
     record.get(first..after).unwrap_or(&[])
 }
 
+/// Do two pieces agree in all channels tested by a place, `tests` being the
+/// place's? A channel that none of these looks at has no say.
+fn agree(tests: &[Test], one: &Piece, other: &Piece) -> bool {
+    tests.iter().all(|test| one.values[test.channel] == other.values[test.channel])
+}
+
+/// The distance of each test at one piece.
+fn distances(tests: &[Test], piece: &Piece) -> impl Iterator<Item = i64> {
+    tests.iter().map(|test| distance(test, &piece.values))
+}
+
 /// In margin a stay is worth the least distance over its tests and the pieces
-/// it touches; a stay without tests is worth 2,000,001. In sum a stay adds up
-/// the distances of all its tests, once per joined piece it touches.
+/// it touches; a stay without tests is worth 2,000,001 (document 01). In sum
+/// each of its observations adds what every test measures, once; without tests
+/// that is 0.
 fn stay_worth(pattern: &Pattern, record: &[Piece], step: &Step) -> i64 {
     let tests = &pattern.places[step.edge.from].tests;
     let pieces = touched(record, step.from, step.until);
-    let distances =
-        pieces.iter().flat_map(|piece| tests.iter().map(|test| distance(test, &piece.values)));
     match pattern.weighting {
-        Weighting::Margin => distances.min().unwrap_or(NO_TESTS),
-        Weighting::Sum => distances.sum(),
+        Weighting::Margin => {
+            pieces.iter().flat_map(|piece| distances(tests, piece)).min().unwrap_or(NO_TESTS)
+        }
+        Weighting::Sum => {
+            // neighbours that agree are one observation. The ticks of one
+            // piece always do, so it is enough to look at pieces; those of one
+            // observation have the same distances, so its first is priced.
+            let observations = pieces.chunk_by(|piece, next| agree(tests, piece, next));
+            observations.flat_map(|observation| distances(tests, &observation[0])).sum()
+        }
     }
 }
 

@@ -1,5 +1,5 @@
-# The self-checks: texts whose answers document 01 and, for bands, R-1 of document 02 give, or follow from them by hand, to the
-# scorer and to `watch` alike. To be sourced by `run`.
+# The self-checks: texts whose answers document 01 and, for bands and sums, R-1 and R-3 of document 02 give, or follow from them
+# by hand, to the scorer and to `watch` alike. To be sourced by `run`.
 
 # expect NAME PATTERN RECORD ANSWER: the answer of both programs to two texts given here. The word `missing` leaves the file
 # out, `folder` puts a folder in its place. Every other text gets a last line feed, and the answer too.
@@ -177,13 +177,132 @@ expect "a run goes on through an end place" '(pattern sum 1 0 2 2)
 (edge 1 1)' '(piece 2 0)' 'end begin score
 2 0 6
 best 2 0 6'
-expect "joining looks at every channel" '(pattern sum 2 0 2 2)
+
+# What sum counts once (R-3). In the workings a bar begins a new observation: 7, 7 | 9 is 7 + 9.
+# stay WEIGHTING CHANNELS TICKS TESTS: over so many ticks it has one run, a single stay in a place with these tests.
+stay() { printf '(pattern %s %s 0 %s %s)\n(place start%s)\n(place end)\n(edge 0 1)' "$1" "$2" "$3" "$3" "${4:+ $4}"; }
+# two_stays TICKS: the one run over twice so many ticks stays so long in a place that tests channel 0, then in one that tests 1.
+two_stays() {
+    printf '(pattern sum 2 1 %s %s)\n(place start (> 0 0))\n(place plain (> 1 0))\n(place end)\n' $((2 * $1)) $((2 * $1))
+    printf '(edge 0 1 (>= 0 %s) (<= 0 %s) (reset 0))\n(edge 1 2)' "$1" "$1"
+}
+# only TICKS SCORE: the answer if the one run is over all ticks.
+only() { printf 'end begin score\n%s 0 %s\nbest %s 0 %s' "$1" "$2" "$1" "$2"; }
+
+# Channel 0 has 7, 7 and channel 1 has 1 | 2.
+twitch='(piece 1 7 1)
+(piece 1 7 2)'
+expect "an untested twitch" "$(stay sum 2 2 '(> 0 0)')" "$twitch" "$(only 2 7)"
+expect "a tested twitch" "$(stay sum 2 2 '(> 1 0)')" "$twitch" "$(only 2 3)"
+# The end place tests channel 1, but no stay is in it.
+elsewhere=$(swap "$(stay sum 2 2 '(> 0 0)')" 'place end' 'place end (> 1 0)')
+expect "a twitch tested elsewhere" "$elsewhere" "$twitch" "$(only 2 7)"
+# Each channel changes once. Channels 0 and 2 have 1 10 | 2 10, 2 10 | 2 20, so 11 + 12 + 22.
+expect "two of three channels" "$(stay sum 3 4 '(> 0 0) (> 2 0)')" '(piece 1 1 5 10)
+(piece 1 2 5 10)
+(piece 1 2 6 10)
+(piece 1 2 6 20)' "$(only 4 45)"
+# Channels 0 and 1 have 7 9 | 7 2 | 7 9, 7 9, so 16 + 9 + 16. The least is 2, and the untested twitch is nothing to margin.
+dip='(piece 1 7 9 1)
+(piece 1 7 2 1)
+(piece 1 7 9 1)
+(piece 1 7 9 2)'
+expect "a dip and an untested twitch, sum" "$(stay sum 3 4 '(> 0 0) (> 1 0)')" "$dip" "$(only 4 41)"
+expect "a dip and an untested twitch, margin" "$(stay margin 3 4 '(> 0 0) (> 1 0)')" "$dip" "$(only 4 2)"
+# Channel 7 has 5, 5 | 6.
+expect "the last of eight channels" "$(stay sum 8 3 '(> 7 0)')" '(piece 1 1 1 1 1 1 1 1 5)
+(piece 1 2 2 2 2 2 2 2 5)
+(piece 1 2 2 2 2 2 2 2 6)' "$(only 3 11)"
+
+# Channel 0 has 1, 1 | 2, 2 | 3, and channel 1 changes at the other ticks.
+expect "changes in turn" "$(stay sum 2 5 '(> 0 0)')" '(piece 1 1 5)
+(piece 1 1 6)
+(piece 1 2 6)
+(piece 1 2 7)
+(piece 1 3 7)' "$(only 5 6)"
+# Channel 0 has 3, 3, 3 and channel 1 has 8 | 9 | 8.
+back='(piece 1 3 8)
+(piece 1 3 9)
+(piece 1 3 8)'
+expect "there and back, untested" "$(stay sum 2 3 '(> 0 0)')" "$back" "$(only 3 3)"
+expect "there and back, tested" "$(stay sum 2 3 '(> 1 0)')" "$back" "$(only 3 25)"
+# By pieces, channel 0 has 7, 7, 7 | 8, 8, 8.
+expect "long and cut pieces with twitches" "$(stay sum 2 16 '(> 0 0)')" '(piece 3 7 1)
+(piece 4 7 2)
+(piece 2 7 2)
+(piece 3 8 2)
+(piece 1 8 2)
+(piece 3 8 9)' "$(only 16 15)"
+
+# Channel 0 has 4, 4 | 6. Two signs give (4 + 2) + (6 + 4), a band and a sign (4 + 3) + (4 + 5).
+four_six='(piece 1 4 1)
+(piece 1 4 2)
+(piece 1 6 2)'
+expect "a channel tested by two signs" "$(stay sum 2 3 '(> 0 0) (> 0 2)')" "$four_six" "$(only 3 16)"
+expect "a channel tested by a band and a sign" "$(stay sum 2 3 '(in 0 0 10) (> 0 1)')" "$four_six" "$(only 3 16)"
+# Values are to agree, not distances: 4 and 6 both are 4 from the band's nearer end.
+expect "equal distances of a band" "$(stay sum 2 3 '(in 0 0 10)')" "$four_six" "$(only 3 8)"
+# Channel 0 has 3, 3 but the band's channel 4 | 6, so 3 + 4 twice.
+expect "a band's channel is tested" "$(stay sum 2 2 '(> 0 0) (in 1 0 10)')" '(piece 1 3 4)
+(piece 1 3 6)' "$(only 2 14)"
+
+# A place without tests has nothing to add, and in margin nothing to be the least of.
+moving='(piece 1 1 5)
+(piece 1 2 6)
+(piece 1 3 7)'
+expect "no tests, sum" "$(stay sum 2 3 '')" "$moving" "$(only 3 0)"
+expect "no tests, margin" "$(stay margin 2 3 '')" "$moving" "$(only 3 2000001)"
+
+# The first stay has 1, 1 | 2 in channel 0, the second 30, 30 | 40 in channel 1.
+expect "each place joins by its own channel" "$(two_stays 3)" '(piece 1 1 10)
+(piece 1 1 20)
+(piece 1 2 20)
+(piece 1 2 30)
+(piece 1 3 30)
+(piece 1 3 40)' "$(only 6 73)"
+# The second stay begins inside a piece: 5, 5 and then 2, 2.
+expect "a stay from inside a piece" "$(two_stays 4)" '(piece 3 5 1)
+(piece 3 5 2)
+(piece 2 6 2)' "$(only 8 7)"
+# It begins where only channel 0 changes: 5 and then 1, which counts although channel 1 has had it since tick 0.
+expect "a stay from an untested twitch" "$(two_stays 2)" '(piece 2 5 1)
+(piece 2 6 1)' "$(only 4 6)"
+# It begins where channel 1 changes, and channel 0 changes next: 5 and then 9, 9.
+expect "a stay from a tested twitch" "$(two_stays 2)" '(piece 2 5 1)
+(piece 1 5 9)
+(piece 1 6 9)' "$(only 4 14)"
+# An edge from a place to itself ends a stay: 7, 7 and then again 7, 7.
+expect "a new stay in the same place" '(pattern sum 2 1 4 4)
+(place both (> 0 0))
+(edge 0 0 (>= 0 2) (<= 0 2) (reset 0))' '(piece 1 7 1)
+(piece 2 7 2)
+(piece 1 7 3)' "$(only 4 14)"
+
+# Runs that begin inside a piece: 7, 7 from 0 and from 1, and 7 | 9 from 2.
+expect "begins inside a piece" "$(stay sum 2 3 '(> 0 0)')" '(piece 2 7 1)
+(piece 2 7 2)
+(piece 1 9 2)' 'end begin score
+3 0 7
+4 1 7
+5 2 16
+best 3 0 7'
+# A longer run makes no further observation, so all have -7 and the shortest stands.
+expect "equal sums, the shortest" "$(swap "$(stay sum 2 3 '(< 0 0)')" '3 3)' '1 3)')" '(piece 1 7 1)
+(piece 1 7 2)
+(piece 1 7 3)' 'end begin score
+1 0 -7
+2 1 -7
+3 2 -7
+best 1 0 -7'
+# One start has 3 | 2 | 3 in channel 0, the other 7, 7, 7 in channel 1.
+expect "the start that sees no change" '(pattern sum 2 0 3 3)
 (place start (> 0 0))
+(place start (> 1 0))
 (place end)
-(edge 0 1)' '(piece 1 7 1)
-(piece 1 7 2)' 'end begin score
-2 0 14
-best 2 0 14'
+(edge 0 2)
+(edge 1 2)' '(piece 1 3 7)
+(piece 1 2 7)
+(piece 1 3 7)' "$(only 3 7)"
 
 # Bands. With the window 1 1 each end has one run of one tick, so its score is the distance at that tick's value.
 band='(pattern margin 1 0 1 1)

@@ -45,11 +45,15 @@ class Pattern:
     def distances(self, place, values):
         return [distance(sign, values[c], bounds) for sign, c, bounds in self.places[place][1]]
 
+    def seen(self, place, values):
+        """What a stay in a place sees: the values in the channels that the place tests."""
+        return [values[c] for _, c, _ in self.places[place][1]]
+
     def better(self, a, b):
         return a > b if self.margin else a < b
 
     def stayed(self, worth, place, values, counts):
-        """The worth after a tick in a place; in sum it counts if its piece was not met before."""
+        """The worth after a tick in a place; in sum it counts if the stay did not see the same the tick before."""
         if self.margin:
             return min([worth, SILENT] + self.distances(place, values))
         return worth + sum(self.distances(place, values)) if counts else worth
@@ -88,14 +92,14 @@ class Runs:
     def __init__(self, p, runs):
         self.p, self.runs = p, runs
 
-    def tick(self, values, new):
-        """One tick; the reported score and length."""
+    def tick(self, values, before):
+        """One tick, and the values of the tick before; the reported score and length."""
         p, after, ended = self.p, [], []
         for length, stage, place, clocks, worth in self.runs:
             if length == p.high:
                 continue
             grown = tuple(c + 1 for c in clocks)
-            worth = p.stayed(worth, place, values, new or stage == 0)
+            worth = p.stayed(worth, place, values, stage == 0 or p.seen(place, values) != p.seen(place, before))
             after.append((length + 1, 1, place, grown, worth))
             for source, to, guards, resets in p.edges:
                 if source == place and all(holds(s, grown[c], b) for s, c, b in guards):
@@ -140,13 +144,9 @@ def price(p, lent):
         return [8, 0], {}
     if len(edges) != len(stays) or not 1 <= len(edges) <= 4095 or lent["begin"][0] >= total:
         return [9, 0], {}
-    pieces = pieces_of(p, lent["durations"], lent["values"])
-    joined, end = [], 0  # first tick, end, values
-    for d, v in pieces:
-        if joined and joined[-1][2] == v:
-            joined[-1][1] += d
-        else:
-            joined.append([end, end + d, v])
+    pieces, end = [], 0  # first tick, end, values
+    for d, v in pieces_of(p, lent["durations"], lent["values"]):
+        pieces.append((end, end + d, v))
         end += d
     now, place, clocks, worth = lent["begin"][0], None, [0] * p.clocks, p.empty
     for edge, stay in zip(edges, stays):
@@ -155,9 +155,11 @@ def price(p, lent):
         source, to, guards, resets = p.edges[edge]
         if (source not in p.starts) if place is None else (source != place):
             return [10, 0], {}
-        for begin, end, values in joined:
+        seen = None
+        for begin, end, values in pieces:
             if begin < now + stay and now < end:
-                worth = p.stayed(worth, source, values, True)
+                worth = p.stayed(worth, source, values, seen != p.seen(source, values))
+                seen = p.seen(source, values)
         clocks = [c + stay for c in clocks]
         if not all(holds(s, clocks[c], b) for s, c, b in guards):
             return [10, 0], {}
@@ -205,7 +207,7 @@ def feed(p, lent):
     if len(lent["scores"]) < duration or len(lent["lengths"]) < duration:
         return [6], {}
     runs = Runs(p, [p.run_at(i) + (worth,) for i, worth in enumerate(first[:p.cells]) if worth != MARK])
-    reports = [runs.tick(values, i == 0 and values != state[1:1 + p.channels]) for i in range(duration)]
+    reports = [runs.tick(values, values if i else state[1:1 + p.channels]) for i in range(duration)]
     after = left_by(p, runs, first, lent["second"])
     after["state"] = [state[0] + duration] + values + [0] * (8 - p.channels) + state[9:]
     after["scores"] = [s for s, _ in reports] + lent["scores"][duration:]
@@ -222,7 +224,7 @@ def best(p, lent):
     for duration, values in pieces_of(p, lent["durations"], lent["values"]):
         # after high + 1 ticks of a piece every run began in it: each further tick finds the same runs, later
         for i in range(min(duration, p.high + 2)):
-            score, length = runs.tick(values, i == 0 and values != last)
+            score, length = runs.tick(values, values if i else last)
             end = now + i + 1
             if length and (found is None or p.better(score, found[2])):
                 found = (end, end - length, score)

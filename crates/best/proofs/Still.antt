@@ -38,11 +38,11 @@ use Rattle.best.proofs.Pieces.{front, rest, split, front-long, start-lo
 -- ---- a book of which high + 1 ticks from tick n on, and `more` after them, are all alike but for the first
 
 module _ (p : Pattern) (sound : soundOf p ≡ true) (b : Book) (n more : ℕ) (x : Sample)
-    (all-alike : (t : ℕ) (f : Bool) (k : ℕ) → suc t < suc (p .high) + more → viewOf p b (n + suc t) f k ≡ tickView p x false f k) where
+    (all-alike : (t : ℕ) (f : Bool) (k : ℕ) → suc t < suc (p .high) + more → viewOf p b (n + suc t) f k ≡ tickView p x x f k) where
   -- the table after m of them, from the one that they found
   abbrev seen : View ℤ
   seen zero = viewOf p b n
-  seen (suc t) = tickView p x false
+  seen (suc t) = tickView p x x
 
   abbrev alike : ℕ → Table ℤ Clocks
   alike m = tableAt (weightingOf (p .weighing)) (heldAutomaton p) sameClocks (p .high) (cellStates p) seen (tableTo p b n) m
@@ -62,13 +62,13 @@ module _ (p : Pattern) (sound : soundOf p ≡ true) (b : Book) (n more : ℕ) (x
   cells-still : (k : ℕ) → k ≤ more → (s : Place Clocks) → List·Memᴰ s (cellStates p) → tableTo p b (n + (suc (p .high) + k)) s ≡ tableTo p b (n + suc (p .high)) s
   cells-still k h s m =
       ap (λ (U : Table ℤ Clocks). U s) (later (suc (p .high) + k) (omega arith))
-      ∙ still (weightingOf (p .weighing)) (heldAutomaton p) sameClocks (p .high) (cellStates p) seen (tickView p x false) (λ t. refl) (tableTo p b n) k s (short s m)
+      ∙ still (weightingOf (p .weighing)) (heldAutomaton p) sameClocks (p .high) (cellStates p) seen (tickView p x x) (λ t. refl) (tableTo p b n) k s (short s m)
       ∙ sym (ap (λ (U : Table ℤ Clocks). U s) (later (suc (p .high)) (omega arith)))
 
   report-still : (k : ℕ) → k ≤ more → reportOf p (tableTo p b (n + (suc (p .high) + k))) ≡ reportOf p (tableTo p b (n + suc (p .high)))
   report-still k h =
       ap (reportOf p) (later (suc (p .high) + k) (omega arith))
-      ∙ still-reports (weightingOf (p .weighing)) (heldAutomaton p) sameClocks (p .high) (cellStates p) short (p .low) seen (tickView p x false) (λ t. refl) (tableTo p b n) k
+      ∙ still-reports (weightingOf (p .weighing)) (heldAutomaton p) sameClocks (p .high) (cellStates p) short (p .low) seen (tickView p x x) (λ t. refl) (tableTo p b n) k
       ∙ sym (ap (reportOf p) (later (suc (p .high)) (omega arith)))
 
   pub written-still : (t : List ℤ) → written p (tableTo p b (n + (suc (p .high) + more))) t ≡ written p (tableTo p b (n + suc (p .high))) t
@@ -124,12 +124,12 @@ module _ (p : Pattern) (sound : soundOf p ≡ true) (ds : List ℕ) (vs : List �
   long k = length-append b (replicate k x) ∙ (let e = length-replicate k x in let f = begins in omega arith)
 
   -- a later tick of the piece is not new
-  view-later : (t : ℕ) (f : Bool) (k : ℕ) → suc t < d → viewOf p B (start + suc t) f k ≡ tickView p x false f k
+  view-later : (t : ℕ) (f : Bool) (k : ℕ) → suc t < d → viewOf p B (start + suc t) f k ≡ tickView p x x f k
   unfolding pieceView
   view-later t f k h =
       let tail = rest p (p .channels) ds vs i (0 + d) in
       let e : start + suc t ≡ length b + suc t = let g = begins in omega arith in
-      subst (λ (w : Book). viewOf p w (start + suc t) f k ≡ tickView p x false f k) (split p (p .channels) ds vs i 0 d inside (omega arith))
+      subst (λ (w : Book). viewOf p w (start + suc t) f k ≡ tickView p x x f k) (split p (p .channels) ds vs i 0 d inside (omega arith))
       (ap (λ (m : ℕ). viewOf p (longer p b d x ++ tail) m f k) e
       ∙ view-front p (longer p b d x) tail (length b + suc t) f k (let l = long d in let g = begins in omega arith)
       ∙ view-new p b d x (suc t) f k h)
@@ -174,7 +174,7 @@ module _ (p : Pattern) (sound : soundOf p ≡ true) (ds : List ℕ) (vs : List �
         ap g y ∙ sym (h a l) ∙ ap g z)
         all-or
 
-    alike-there : m ≡ p .high + 1 → m ≤ d → (t : ℕ) (f : Bool) (k : ℕ) → suc t < suc (p .high) + (d - m) → viewOf p B (start + suc t) f k ≡ tickView p x false f k
+    alike-there : m ≡ p .high + 1 → m ≤ d → (t : ℕ) (f : Bool) (k : ℕ) → suc t < suc (p .high) + (d - m) → viewOf p B (start + suc t) f k ≡ tickView p x x f k
     alike-there a l t f k h = view-later t f k (omega arith)
 
     pub table-passes : (t : List ℤ) → written p (tableTo p B (start + m)) t ≡ written p (tableTo p B (start + d)) t

@@ -22,13 +22,13 @@ use Rattle.pattern.specs.declared.Pattern.{Pattern}
 use Rattle.pattern.specs.InUse.{placeAt}
 use Rattle.pattern.specs.Distance.{Sample, distancesOf, placeWorth}
 use Rattle.record.specs.Record.{Book}
-use Rattle.record.specs.Joined.{sameSample, joined, observed, freshAfter}
+use Rattle.record.specs.Joined.{agrees, joined, observed, freshAfter}
 use Rattle.record.specs.Worth.{stayWorth}
-use Rattle.record.proofs.JoinedLaws.{same-self, same-true, joined-fresh}
+use Rattle.record.proofs.JoinedLaws.{joined-fresh, agree-worth}
 use Rattle.record.proofs.Claims.{margin-counts-ticks}
 use Rattle.walks.specs.Runs.{stayGains, together}
-use Rattle.book.specs.View.{counts, gainIn, sampleAt, before, viewOf}
-use Rattle.book.specs.Claims.{GainsAreWorths}
+use Rattle.book.specs.View.{counts, gainBy, gainsBy, sampleAt, before, viewOf}
+use Rattle.book.specs.Claims.{GainsAreWorths, ObservedGains}
 
 -- ---- every gain is a worth
 
@@ -46,83 +46,63 @@ place-worth-worth : (w : Weighing) (l : Place) (s : Sample) → T (weightingOf w
 unfolding placeWorth
 place-worth-worth w l s = all-worth w (distancesOf l s)
 
-gain-worth : (w : Weighing) (l : Place) (s : Sample) (t : Bool) → T (weightingOf w .worth (cond t (placeWorth w l s) (weightingOf w .unit)))
-gain-worth w l s true = place-worth-worth w l s
-gain-worth w l s false = weightingOf w .unit-worth
+gain-worth : {A : Type 0} (w : Weighing) (same : A → A → Bool) (worth : A → ℤ) → ((x : A) → T (weightingOf w .worth (worth x)))
+    → (last now : A) (f : Bool) → T (weightingOf w .worth (gainBy w same worth last now f))
+unfolding gainBy
+gain-worth w same worth h last now f = by (counts w (not (same last now)) f)
+  where
+    by : (t : Bool) → T (weightingOf w .worth (cond t (worth now) (weightingOf w .unit)))
+    by true = h now
+    by false = weightingOf w .unit-worth
 
 pub gains-are-worths : GainsAreWorths
-unfolding gainIn
 gains-are-worths p b t f k g e =
     subst (λ (z : ℤ). T (weightingOf (p .weighing) .worth z)) (Option·some-injective _ g e)
-    (gain-worth (p .weighing) (placeAt p k) (sampleAt b t) (counts (p .weighing) (not (sameSample (sampleAt b t) (before p b t))) f))
+    (gain-worth (p .weighing) _ _ (place-worth-worth (p .weighing) (placeAt p k)) (before p b t) (sampleAt b t) f)
 
--- ---- the gains of some ticks, the first of them seen with the flag f and after the sample s
+-- ---- observations together are worth what the ticks gain together
 
-unfoldable pub gainsIn : Weighing → Place → Bool → Sample → Book → List ℤ
-gainsIn w l f s [] = []
-gainsIn w l f s (x ∷ b) = gainIn w l x (not (sameSample x s)) f ∷ gainsIn w l false x b
+module _ {A : Type 0} (same : A → A → Bool) (worth : A → ℤ) where
+  sum-after : (a : ℤ) (last : A) (b : List A) → combineFrom sum a (map worth (freshAfter same last b)) ≡ combineFrom sum a (gainsBy Sum same worth last false b)
+  unfolding freshAfter gainsBy gainBy combineFrom
+  sum-after a last [] = refl
+  sum-after a last (x ∷ b) = by (same last x) (λ c. sum-after c x b)
+    where
+      by : (t : Bool) → ((c : ℤ) → combineFrom sum c (map worth (freshAfter same x b)) ≡ combineFrom sum c (gainsBy Sum same worth x false b))
+          → combineFrom sum a (map worth (cond t (freshAfter same x b) (x ∷ freshAfter same x b))) ≡ combineFrom sum (a +ℤ cond (not t) (worth x) (pos 0)) (gainsBy Sum same worth x false b)
+      by true ih = ih a ∙ ap (λ (c : ℤ). combineFrom sum c (gainsBy Sum same worth x false b)) (sym (+ℤ-idr a))
+      by false ih = ih (a +ℤ worth x)
 
--- they are what the view says of the ticks of a book from t on
+  sum-joined : (last : A) (b : List A) → combineAll sum (map worth (joined same b)) ≡ combineAll sum (gainsBy Sum same worth last true b)
+  unfolding joined gainsBy gainBy combineFrom
+  sum-joined last [] = refl
+  sum-joined last (x ∷ b) = ap (λ (l : List A). combineAll sum (map worth l)) (joined-fresh same x b) ∙ sum-after (pos 0 +ℤ worth x) x b
+
+  -- in margin each tick counts
+  margin-gains : (last : A) (f : Bool) (b : List A) → gainsBy Margin same worth last f b ≡ map worth b
+  unfolding gainsBy gainBy
+  margin-gains last f [] = refl
+  margin-gains last f (x ∷ b) = ap (_∷_ (worth x)) (margin-gains x false b)
+
+pub observed-gains : ObservedGains
+observed-gains A Margin same worth alike last b = margin-counts-ticks A same worth (alike refl) b ∙ ap (combineAll margin) (sym (margin-gains same worth last true b))
+observed-gains A Sum same worth alike last b = sum-joined same worth last b
+
+-- ---- a stay inside the book
+
+-- the view's gains of the ticks from t on
 view-gains : (p : Pattern) (b : Book) (k t n : ℕ) (f : Bool) → t + n ≤ length b
-    → stayGains (viewOf p b) f t k n ≡ some (gainsIn (p .weighing) (placeAt p k) f (before p b t) (take n (drop t b)))
-unfolding stayGains gainsIn before
+    → stayGains (viewOf p b) f t k n
+    ≡ some (gainsBy (p .weighing) (agrees (placeAt p k)) (placeWorth (p .weighing) (placeAt p k)) (before p b t) f (take n (drop t b)))
+unfolding stayGains gainsBy before
 view-gains p b k t zero f h = refl
 view-gains p b k t (suc n) f h = rw (drop-cons b t [] (omega arith), view-gains p b k (suc t) n false (omega arith))
 
--- ---- together they are worth what the stay observes
-
-turned : (s x : Sample) → sameSample s x ≡ true → sameSample x s ≡ true
-turned s x e = subst (λ (y : Sample). sameSample y s ≡ true) (same-true s x e) (same-self s)
-
-same-turn : (s x : Sample) → sameSample s x ≡ sameSample x s
-same-turn s x = by (sameSample s x) (sameSample x s) refl refl
-  where
-    no : _≡_ {A = Bool} true false → ⊥
-    no e = let z : _≡_ {A = ℕ} 0 1 = cc in omega arith
-
-    by : (a b : Bool) → sameSample s x ≡ a → sameSample x s ≡ b → a ≡ b
-    by true true e g = refl
-    by false false e g = refl
-    by true false e g = absurd (no (sym (turned s x e) ∙ g))
-    by false true e g = absurd (no (sym (turned x s g) ∙ e))
-
-sum-after : (l : Place) (a : ℤ) (s : Sample) (b : Book)
-    → combineFrom sum a (map (placeWorth Sum l) (freshAfter s b)) ≡ combineFrom sum a (gainsIn Sum l false s b)
-unfolding freshAfter gainsIn gainIn combineFrom
-sum-after l a s [] = refl
-sum-after l a s (x ∷ b) = rw (same-turn s x) (by (sameSample x s) (λ c. sum-after l c x b))
-  where
-    by : (t : Bool) → ((c : ℤ) → combineFrom sum c (map (placeWorth Sum l) (freshAfter x b)) ≡ combineFrom sum c (gainsIn Sum l false x b))
-        → combineFrom sum a (map (placeWorth Sum l) (cond t (freshAfter x b) (x ∷ freshAfter x b))) ≡ combineFrom sum (a +ℤ cond (not t) (placeWorth Sum l x) (pos 0)) (gainsIn Sum l false x b)
-    by true ih = ih a ∙ ap (λ (c : ℤ). combineFrom sum c (gainsIn Sum l false x b)) (sym (+ℤ-idr a))
-    by false ih = ih (a +ℤ placeWorth Sum l x)
-
-margin-gains : (l : Place) (f : Bool) (s : Sample) (b : Book) → gainsIn Margin l f s b ≡ map (placeWorth Margin l) b
-unfolding gainsIn gainIn
-margin-gains l f s [] = refl
-margin-gains l f s (x ∷ b) = ap (_∷_ (placeWorth Margin l x)) (margin-gains l false x b)
-
-sum-none : (l : Place) (s : Sample) → combineAll sum (map (placeWorth Sum l) (joined [])) ≡ combineAll sum (gainsIn Sum l true s [])
-unfolding joined gainsIn
-sum-none l s = refl
-
-sum-some : (l : Place) (s x : Sample) (b : Book) → combineAll sum (placeWorth Sum l x ∷ map (placeWorth Sum l) (freshAfter x b)) ≡ combineAll sum (gainsIn Sum l true s (x ∷ b))
-unfolding gainsIn gainIn combineFrom
-sum-some l s x b = sum-after l (pos 0 +ℤ placeWorth Sum l x) x b
-
-observed-sum : (l : Place) (s : Sample) (b : Book) → combineAll sum (map (placeWorth Sum l) (joined b)) ≡ combineAll sum (gainsIn Sum l true s b)
-observed-sum l s [] = sum-none l s
-observed-sum l s (x ∷ b) = rw (joined-fresh x b) (sum-some l s x b)
-
-observed-gains : (w : Weighing) (l : Place) (s : Sample) (b : Book)
-    → combineAll (weightingOf w) (map (placeWorth w l) (joined b)) ≡ combineAll (weightingOf w) (gainsIn w l true s b)
-observed-gains Margin l s b = margin-counts-ticks l b ∙ ap (combineAll margin) (sym (margin-gains l true s b))
-observed-gains Sum l s b = observed-sum l s b
-
--- a stay inside the book
 pub stay-together : (p : Pattern) (b : Book) (k t n : ℕ) → t + n ≤ length b
     → together (weightingOf (p .weighing)) (stayGains (viewOf p b) true t k n) ≡ some (stayWorth p b k t n)
 unfolding stayWorth observed
 stay-together p b k t n h =
+    let w = p .weighing in
+    let l = placeAt p k in
     rw (view-gains p b k t n true h)
-    (ap some (sym (observed-gains (p .weighing) (placeAt p k) (before p b t) (take n (drop t b)))))
+    (ap some (sym (observed-gains Sample w (agrees l) (placeWorth w l) (λ _. agree-worth w l) (before p b t) (take n (drop t b)))))

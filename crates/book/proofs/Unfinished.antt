@@ -4,7 +4,7 @@ use native.Mathlib.Omega.{arith}
 use mathlib.Core.Path.{_≡_, refl, sym, ap, subst, _∙_}
 use mathlib.Core.List.{List, [], _∷_, _++_}
 use mathlib.Core.Option.{Option, none, some, Option·some-injective, Option·none-ne-some}
-use mathlib.Core.Bool.{Bool, true, false, not, cond}
+use mathlib.Core.Bool.{Bool, true, false, cond}
 use lib.Dec.{T, eqb}
 use lib.ListN.{length}
 use lib.IntN.{ℤ}
@@ -19,7 +19,7 @@ use Rattle.pattern.specs.InUse.{placeAt, edgeAt}
 use Rattle.pattern.specs.Kinds as kinds
 use Rattle.pattern.specs.Clocks.{Clocks, zeroClocks, later, guardsHold, afterResets}
 use Rattle.record.specs.Record.{Book}
-use Rattle.record.specs.Joined.{sameSample, joined, observed}
+use Rattle.record.specs.Joined.{joined, observed}
 use Rattle.record.specs.Run.{Step, canStep, clocksAfter, lengthOf}
 use Rattle.record.specs.Worth.{stayWorth, stayWorths}
 use Rattle.walks.specs.Automaton.{State, entering, stayed, taken}
@@ -90,7 +90,7 @@ module _ (p : Pattern) (b : Book) where
 
   -- what tick t gains in place k
   abbrev gain : ℕ → Bool → ℕ → ℤ
-  gain t f k = gainIn (p .weighing) (placeAt p k) (sampleAt b t) (not (sameSample (sampleAt b t) (before p b t))) f
+  gain t f k = gainIn (p .weighing) (placeAt p k) (before p b t) (sampleAt b t) f
 
   -- ---- a stay of no tick, and one of a tick more
 

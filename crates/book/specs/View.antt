@@ -1,8 +1,8 @@
 -- What a tick does to the worth of a run that stays in a place through it: the view of ticks that a book gives.
 use Prim.Native.Nat.{ℕ, zero, suc}
-use mathlib.Core.List.{[]}
+use mathlib.Core.List.{List, [], _∷_}
 use mathlib.Core.Option.{some}
-use mathlib.Core.Bool.{Bool, true, not, cond, _||_}
+use mathlib.Core.Bool.{Bool, true, false, not, cond, _||_}
 use lib.ListN.{getD, replicate}
 use lib.IntN.{ℤ, pos}
 use Rattle.weighting.specs.declared.Weighing.{Weighing}
@@ -13,23 +13,36 @@ use Rattle.pattern.specs.declared.Pattern.{Pattern}
 use Rattle.pattern.specs.InUse.{placeAt}
 use Rattle.pattern.specs.Distance.{Sample, placeWorth}
 use Rattle.record.specs.Record.{Book}
-use Rattle.record.specs.Joined.{sameSample}
+use Rattle.record.specs.Joined.{agrees}
 use Rattle.walks.specs.Automaton.{TickView, View}
 
--- Whether a tick counts: in margin every tick does; in sum the first tick of a stay, and "a staying cell meets a new piece
--- exactly when the tick's values differ from those of the tick before".
+-- ---- what a tick gains, by any test of neighbours and any worth of a tick
+
+-- Whether a tick counts: in margin each does; in sum the first of a stay does, and each that is a new observation in it.
 abbrev pub counts : Weighing → (new entered : Bool) → Bool
 counts Margin new entered = true
 counts Sum new entered = entered || new
 
--- What the worth of a run in a place is combined with: the place's worth of the sample, or the unit,
--- which changes no worth.
-unfoldable pub gainIn : Weighing → Place → Sample → (new entered : Bool) → ℤ
-gainIn w l s new entered = cond (counts w new entered) (placeWorth w l s) (weightingOf w .unit)
+-- What the worth of a run is combined with, by the tick before and the tick now: the tick's worth, or the unit, which changes no
+-- worth. The tick is a new observation if it is not one with the tick before.
+unfoldable pub gainBy : {A : Type 0} → Weighing → (same : A → A → Bool) → (worth : A → ℤ) → (last now : A) → (entered : Bool) → ℤ
+gainBy w same worth last now entered = cond (counts w (not (same last now)) entered) (worth now) (weightingOf w .unit)
 
--- One tick, by its sample and whether that is new. Every place can be stayed in.
-abbrev pub tickView : Pattern → Sample → (new : Bool) → TickView ℤ
-tickView p s new entered k = some (gainIn (p .weighing) (placeAt p k) s new entered)
+-- The ticks of a stay, one after the other, the first of them after the tick `last`.
+unfoldable pub gainsBy : {A : Type 0} → Weighing → (same : A → A → Bool) → (worth : A → ℤ) → (last : A) → (entered : Bool) → List A → List ℤ
+gainsBy w same worth last entered [] = []
+gainsBy w same worth last entered (x ∷ b) = gainBy w same worth last x entered ∷ gainsBy w same worth x false b
+
+-- ---- what a tick of a book gains
+
+-- In a place, by the samples of the tick before and of the tick now: "a staying cell meets a new piece" (document 01, 'Monitor
+-- tables') where these do not agree in the place (document 02, R-3).
+abbrev pub gainIn : Weighing → Place → (last now : Sample) → (entered : Bool) → ℤ
+gainIn w l = gainBy w (agrees l) (placeWorth w l)
+
+-- In every place of a pattern. Each can be stayed in.
+abbrev pub tickView : Pattern → (last now : Sample) → TickView ℤ
+tickView p last now entered k = some (gainIn (p .weighing) (placeAt p k) last now entered)
 
 abbrev pub sampleAt : Book → (t : ℕ) → Sample
 sampleAt b t = getD b t []
@@ -41,4 +54,4 @@ before p b (suc t) = sampleAt b t
 
 -- All ticks of a book.
 abbrev pub viewOf : Pattern → Book → View ℤ
-viewOf p b t = tickView p (sampleAt b t) (not (sameSample (sampleAt b t) (before p b t)))
+viewOf p b t = tickView p (before p b t) (sampleAt b t)

@@ -32,7 +32,7 @@ use Rattle.walks.specs.Tables.{Table, next}
 use Rattle.walks.proofs.Cut.{only-cells}
 use Rattle.walks.proofs.Rows.{reports-only-cells}
 use Rattle.book.specs.Automaton.{sameClocks, heldAutomaton}
-use Rattle.book.specs.View.{counts, gainIn, tickView}
+use Rattle.book.specs.View.{gainIn, tickView}
 use Rattle.cells.specs.declared.Layout.{Layout}
 use Rattle.cells.specs.Layout.{layoutOf, cellsIn, Laid}
 use Rattle.cells.proofs.Blocks.{row-next}
@@ -55,7 +55,7 @@ use Rattle.monitor.specs.Feed.{cellFine, pieceView}
 use Rattle.monitor.proofs.Numbers.{made-in, made-only}
 use Rattle.monitor.proofs.CellLaws.{laid, cells-are, at-index, celled-at, is-cell}
 use Rattle.monitor.proofs.Written.{fine-at}
-use Rattle.monitor.proofs.Sizes.{GainSized, gain-sized}
+use Rattle.monitor.proofs.Sizes.{GainSized, gain-in-sized}
 use Rattle.feed_ticks.specs.Ticks.{kindFlag, kindFlags, gainsOf, viewIn, Ground, groundOf, viewAt, tableTo, scoresTo, lengthsTo, reportIn, Telling}
 use Rattle.feed_moves.proofs.Lists.{same-default, is-written}
 
@@ -142,84 +142,83 @@ module _ (p : Pattern) (sound : soundOf p ≡ true) where
 
   -- ---- the view of a tick
 
-  module _ (vs : Sample) (fine : all valueInRange vs ≡ true) (new : Bool) where
-    gain-low : (f : Bool) (k : ℕ) → natAbs (gainIn (p .weighing) (placeAt p k) vs new f) ≤ 8000000
-    unfolding gainIn
-    gain-low f k = by (p .weighing) _ (gain-sized p sound (p .weighing) k vs (counts (p .weighing) new f) fine)
+  module _ (vs : Sample) (fine : all valueInRange vs ≡ true) (last : Sample) where
+    gain-low : (f : Bool) (k : ℕ) → natAbs (gainIn (p .weighing) (placeAt p k) last vs f) ≤ 8000000
+    gain-low f k = by (p .weighing) _ (gain-in-sized p sound last vs fine f k)
       where
         by : (w : Weighing) (z : ℤ) → GainSized w z → natAbs z ≤ 8000000
         by Margin z h = omega arith
         by Sum z h = h
 
-    gain-at : (f : Bool) (k : ℕ) → k < p .placecount → gainAt (gainsOf p vs new f) k ≡ gainIn (p .weighing) (placeAt p k) vs new f
+    gain-at : (f : Bool) (k : ℕ) → k < p .placecount → gainAt (gainsOf p last vs f) k ≡ gainIn (p .weighing) (placeAt p k) last vs f
     gain-at f k h =
-        let made : Place → ℤ = λ l. gainIn (p .weighing) l vs new f in
+        let made : Place → ℤ = λ l. gainIn (p .weighing) l last vs f in
         let long : k < length (map made (p .places)) = let e = length-map (p .places) made in let l = places-long k h in omega arith in
         same-default (map made (p .places)) k (pos 0) (made noPlace) long ∙ List·getD-map made (p .places) k noPlace
 
-    pub view-known : Known (layout p) (viewIn p vs new) (p .edges) (p .edgecount)
+    pub view-known : Known (layout p) (viewIn p last vs) (p .edges) (p .edgecount)
     view-known =
-        known-pattern p sound (p .high) (let s = parts p sound .shortHigh in omega arith) (viewIn p vs new)
+        known-pattern p sound (p .high) (let s = parts p sound .shortHigh in omega arith) (viewIn p last vs)
         (λ k h. inr (rw (gain-at true k h) (gain-low true k)))
         (λ k h. inr (rw (gain-at false k h) (gain-low false k)))
 
     no-mark : (z : ℤ) → natAbs z ≤ 8000000 → z ≡ mark → ⊥
     no-mark z h e = let l : natAbs mark ≤ 8000000 = subst (λ (y : ℤ). natAbs y ≤ 8000000) e h in omega arith
 
-    seen-at : (f : Bool) (k : ℕ) → k < p .placecount → tickView p vs new f k ≡ heldIn (gainAt (gainsOf p vs new f) k)
+    seen-at : (f : Bool) (k : ℕ) → k < p .placecount → tickView p last vs f k ≡ heldIn (gainAt (gainsOf p last vs f) k)
     seen-at f k h = sym (ap heldIn (gain-at f k h) ∙ heldIn-other _ (no-mark _ (gain-low f k)))
 
-    pub view-seen : Viewed (layout p) (viewIn p vs new) (tickView p vs new)
+    pub view-seen : Viewed (layout p) (viewIn p last vs) (tickView p last vs)
     unfolding layoutOf
     view-seen true k h = seen-at true k h
     view-seen false k h = seen-at false k h
 
   -- ---- the ticks of a piece
 
-  module _ (vs : Sample) (fine : all valueInRange vs ≡ true) (new : Bool) (t : List ℤ) (long : cellsNeeded p ≤ length t) (whole : Whole t (layout p)) where
+  module _ (vs : Sample) (fine : all valueInRange vs ≡ true) (last : Sample) (t : List ℤ) (long : cellsNeeded p ≤ length t) (whole : Whole t (layout p)) where
     -- the table after i ticks, and that it can be moved on
     abbrev to : ℕ → List ℤ
-    to i = tableTo ground (viewIn p vs new) (viewIn p vs false) t i
+    to i = tableTo ground (viewIn p last vs) (viewIn p vs vs) t i
 
-    known-at : (i : ℕ) → Known (layout p) (viewAt (viewIn p vs new) (viewIn p vs false) i) (p .edges) (p .edgecount)
-    known-at zero = view-known vs fine new
-    known-at (suc i) = view-known vs fine false
+    known-at : (i : ℕ) → Known (layout p) (viewAt (viewIn p last vs) (viewIn p vs vs) i) (p .edges) (p .edgecount)
+    known-at zero = view-known vs fine last
+    known-at (suc i) = view-known vs fine vs
 
     pub whole-to : (i : ℕ) → Whole (to i) (layout p)
     unfolding tableTo
     whole-to zero = whole
     whole-to (suc i) =
-        tick-keeps-whole (layout p) (p .weighing) (viewAt (viewIn p vs new) (viewIn p vs false) i) (p .edges) (p .edgecount) (kindFlags false p) (kindFlags true p) (to i)
+        tick-keeps-whole (layout p) (p .weighing) (viewAt (viewIn p last vs) (viewIn p vs vs) i) (p .edges) (p .edgecount) (kindFlags false p) (kindFlags true p) (to i)
         (record { known = known-at i; whole = whole-to i })
 
-    ticking-to : (i : ℕ) → Ticking (to i) (layout p) (viewAt (viewIn p vs new) (viewIn p vs false) i) (p .edges) (p .edgecount)
+    ticking-to : (i : ℕ) → Ticking (to i) (layout p) (viewAt (viewIn p last vs) (viewIn p vs vs) i) (p .edges) (p .edgecount)
     ticking-to i = record { known = known-at i; whole = whole-to i }
 
     pub length-to : (i : ℕ) → length (to i) ≡ length t
     unfolding tableTo
     length-to zero = refl
     length-to (suc i) =
-        tick-leaves-further (layout p) (p .weighing) (viewAt (viewIn p vs new) (viewIn p vs false) i) (p .edges) (p .edgecount) (kindFlags false p) (kindFlags true p) (to i) (ticking-to i) .0
+        tick-leaves-further (layout p) (p .weighing) (viewAt (viewIn p last vs) (viewIn p vs vs) i) (p .edges) (p .edgecount) (kindFlags false p) (kindFlags true p) (to i) (ticking-to i) .0
         ∙ length-to i
 
     further-to : (i j : ℕ) → cellsNeeded p ≤ j → cellAt (to i) j ≡ cellAt t j
     unfolding tableTo
     further-to zero j h = refl
     further-to (suc i) j h =
-        tick-leaves-further (layout p) (p .weighing) (viewAt (viewIn p vs new) (viewIn p vs false) i) (p .edges) (p .edgecount) (kindFlags false p) (kindFlags true p) (to i) (ticking-to i) .1 j (let e = cells-are p sound in omega arith)
+        tick-leaves-further (layout p) (p .weighing) (viewAt (viewIn p last vs) (viewIn p vs vs) i) (p .edges) (p .edgecount) (kindFlags false p) (kindFlags true p) (to i) (ticking-to i) .1 j (let e = cells-are p sound in omega arith)
         ∙ further-to i j h
 
     seen-to : (i : ℕ) → Seen (layout p) (to i) (cellStates p) (heldBy p (to i))
     seen-to i = seen (to i) (let e = length-to i in omega arith)
 
-    viewed-at : (i : ℕ) → Viewed (layout p) (viewAt (viewIn p vs new) (viewIn p vs false) i) (pieceView p new vs i)
+    viewed-at : (i : ℕ) → Viewed (layout p) (viewAt (viewIn p last vs) (viewIn p vs vs) i) (pieceView p last vs i)
     unfolding pieceView
-    viewed-at zero = view-seen vs fine new
-    viewed-at (suc i) = view-seen vs fine false
+    viewed-at zero = view-seen vs fine last
+    viewed-at (suc i) = view-seen vs fine vs
 
     -- the definitions' table after i ticks
     abbrev meant : ℕ → Table ℤ Clocks
-    meant i = ticksLater p (pieceView p new vs) (heldBy p t) i
+    meant i = ticksLater p (pieceView p last vs) (heldBy p t) i
 
     agree : (i : ℕ) → ((k : ℕ) → k < cellsNeeded p → heldIn (cellAt (to i) k) ≡ meant i (stateAt p k)) → (x : Place′ Clocks) → List·Memᴰ x (cellStates p) → heldBy p (to i) x ≡ meant i x
     agree i f x m =
@@ -232,9 +231,9 @@ module _ (p : Pattern) (sound : soundOf p ≡ true) where
     unfolding tableTo layoutOf
     held-to zero k h = sym (seen t long .holds k (let e = cells-are p sound in omega arith))
     held-to (suc i) k h =
-        tick-is-next (layout p) (p .weighing) (viewAt (viewIn p vs new) (viewIn p vs false) i) (p .edges) (p .edgecount) (kindFlags false p) (kindFlags true p)
-        (heldAutomaton p) about sameClocks (to i) (ticking-to i) (cellStates p) (heldBy p (to i)) (seen-to i) (pieceView p new vs i) (viewed-at i) k (let e = cells-are p sound in omega arith)
-        ∙ only-cells (weightingOf (p .weighing)) (heldAutomaton p) sameClocks (p .high) (cellStates p) (λ _. pieceView p new vs i) (heldBy p (to i)) (meant i)
+        tick-is-next (layout p) (p .weighing) (viewAt (viewIn p last vs) (viewIn p vs vs) i) (p .edges) (p .edgecount) (kindFlags false p) (kindFlags true p)
+        (heldAutomaton p) about sameClocks (to i) (ticking-to i) (cellStates p) (heldBy p (to i)) (seen-to i) (pieceView p last vs i) (viewed-at i) k (let e = cells-are p sound in omega arith)
+        ∙ only-cells (weightingOf (p .weighing)) (heldAutomaton p) sameClocks (p .high) (cellStates p) (λ _. pieceView p last vs i) (heldBy p (to i)) (meant i)
         (agree i (λ j l. held-to i j l)) 1 (stateAt p k) (seen t long .listed k (let e = cells-are p sound in omega arith))
 
     pub holds-to : (i : ℕ) (x : Place′ Clocks) → List·Memᴰ x (cellStates p) → heldBy p (to i) x ≡ meant i x
@@ -247,42 +246,42 @@ module _ (p : Pattern) (sound : soundOf p ≡ true) where
     -- ---- reports
 
     -- the report of tick i is that of the table after it
-    report-found : (i : ℕ) → resultOf (reportIn ground (viewIn p vs new) (viewIn p vs false) t i) ≡ monitor.reportOf p (meant (suc i))
+    report-found : (i : ℕ) → resultOf (reportIn ground (viewIn p last vs) (viewIn p vs vs) t i) ≡ monitor.reportOf p (meant (suc i))
     unfolding layoutOf
     report-found i =
-        told-is-report (layout p) (p .weighing) (viewAt (viewIn p vs new) (viewIn p vs false) i) (p .edges) (p .edgecount) (kindFlags false p) (kindFlags true p)
-        (heldAutomaton p) about sameClocks (p .low) (parts p sound .someLow) (to i) (ticking-to i) (cellStates p) (heldBy p (to i)) (seen-to i) (pieceView p new vs i) (viewed-at i)
-        ∙ reports-only-cells (weightingOf (p .weighing)) (heldAutomaton p) sameClocks (p .high) (cellStates p) (p .low) (next (weightingOf (p .weighing)) (heldAutomaton p) sameClocks (p .high) (cellStates p) (pieceView p new vs i) (heldBy p (to i))) (meant (suc i))
-        (only-cells (weightingOf (p .weighing)) (heldAutomaton p) sameClocks (p .high) (cellStates p) (λ _. pieceView p new vs i) (heldBy p (to i)) (meant i) (holds-to i) 1)
+        told-is-report (layout p) (p .weighing) (viewAt (viewIn p last vs) (viewIn p vs vs) i) (p .edges) (p .edgecount) (kindFlags false p) (kindFlags true p)
+        (heldAutomaton p) about sameClocks (p .low) (parts p sound .someLow) (to i) (ticking-to i) (cellStates p) (heldBy p (to i)) (seen-to i) (pieceView p last vs i) (viewed-at i)
+        ∙ reports-only-cells (weightingOf (p .weighing)) (heldAutomaton p) sameClocks (p .high) (cellStates p) (p .low) (next (weightingOf (p .weighing)) (heldAutomaton p) sameClocks (p .high) (cellStates p) (pieceView p last vs i) (heldBy p (to i))) (meant (suc i))
+        (only-cells (weightingOf (p .weighing)) (heldAutomaton p) sameClocks (p .high) (cellStates p) (λ _. pieceView p last vs i) (heldBy p (to i)) (meant i) (holds-to i) 1)
 
-    blank : (i : ℕ) → Blank (reportIn ground (viewIn p vs new) (viewIn p vs false) t i)
-    blank i = unfound (layout p) (p .weighing) (viewAt (viewIn p vs new) (viewIn p vs false) i) (p .edges) (p .edgecount) (kindFlags true p) (p .low) (to i)
+    blank : (i : ℕ) → Blank (reportIn ground (viewIn p last vs) (viewIn p vs vs) t i)
+    blank i = unfound (layout p) (p .weighing) (viewAt (viewIn p last vs) (viewIn p vs vs) i) (p .edges) (p .edgecount) (kindFlags true p) (p .low) (to i)
 
-    pub score-to : (i : ℕ) → reportIn ground (viewIn p vs new) (viewIn p vs false) t i .score ≡ scoreIn (monitor.reportOf p (meant (suc i)))
-    score-to i = said-score (reportIn ground (viewIn p vs new) (viewIn p vs false) t i) (blank i) ∙ ap scoreIn (report-found i)
+    pub score-to : (i : ℕ) → reportIn ground (viewIn p last vs) (viewIn p vs vs) t i .score ≡ scoreIn (monitor.reportOf p (meant (suc i)))
+    score-to i = said-score (reportIn ground (viewIn p last vs) (viewIn p vs vs) t i) (blank i) ∙ ap scoreIn (report-found i)
 
-    pub length-told : (i : ℕ) → reportIn ground (viewIn p vs new) (viewIn p vs false) t i .length ≡ lengthIn (monitor.reportOf p (meant (suc i)))
-    length-told i = said-length (reportIn ground (viewIn p vs new) (viewIn p vs false) t i) (blank i) ∙ ap lengthIn (report-found i)
+    pub length-told : (i : ℕ) → reportIn ground (viewIn p last vs) (viewIn p vs vs) t i .length ≡ lengthIn (monitor.reportOf p (meant (suc i)))
+    length-told i = said-length (reportIn ground (viewIn p last vs) (viewIn p vs vs) t i) (blank i) ∙ ap lengthIn (report-found i)
 
     -- ---- a piece, told
 
-    pub telling : (scores lengths d : ℕ) → d ≤ scores → d ≤ lengths → Telling ground (viewIn p vs new) (viewIn p vs false) t scores lengths d
+    pub telling : (scores lengths d : ℕ) → d ≤ scores → d ≤ lengths → Telling ground (viewIn p last vs) (viewIn p vs vs) t scores lengths d
     unfolding layoutOf tableTo
     telling scores lengths d a b =
         record {
           first = ticking-to 0;
-          later = view-known vs fine false;
+          later = view-known vs fine vs;
           scoresLong = a;
           lengthsLong = b;
         }
 
     pub scores-told : (scores : List ℤ) (d : ℕ)
-        → scoresTo ground (viewIn p vs new) (viewIn p vs false) t scores d ≡ map (λ i. scoreIn (monitor.reportOf p (meant (suc i)))) (upTo d) ++ drop d scores
+        → scoresTo ground (viewIn p last vs) (viewIn p vs vs) t scores d ≡ map (λ i. scoreIn (monitor.reportOf p (meant (suc i)))) (upTo d) ++ drop d scores
     unfolding scoresTo
     scores-told scores d = ap (λ (f : ℕ → ℤ). map f (upTo d) ++ drop d scores) (fun-ext score-to)
 
     pub lengths-told : (lengths : List ℕ) (d : ℕ)
-        → lengthsTo ground (viewIn p vs new) (viewIn p vs false) t lengths d ≡ map (λ i. lengthIn (monitor.reportOf p (meant (suc i)))) (upTo d) ++ drop d lengths
+        → lengthsTo ground (viewIn p last vs) (viewIn p vs vs) t lengths d ≡ map (λ i. lengthIn (monitor.reportOf p (meant (suc i)))) (upTo d) ++ drop d lengths
     unfolding lengthsTo
     lengths-told lengths d = ap (λ (f : ℕ → ℕ). map f (upTo d) ++ drop d lengths) (fun-ext length-told)
 

@@ -23,10 +23,10 @@ use Rattle.monitor.proofs.Still.{piece-still, piece-reports}
 use Rattle.feed_ticks.specs.Ticks.{repeated}
 use Rattle.feed_ticks.proofs.Repeated.{made-alike}
 
-module _ (p : Pattern) (sound : soundOf p ≡ true) (vs : Sample) (new : Bool) (t : List ℤ) where
+module _ (p : Pattern) (sound : soundOf p ≡ true) (before vs : Sample) (t : List ℤ) where
   -- the table after n ticks of the piece
   abbrev meant : ℕ → Table ℤ Clocks
-  meant n = ticksLater p (pieceView p new vs) (heldBy p t) n
+  meant n = ticksLater p (pieceView p before vs) (heldBy p t) n
 
   -- m ticks are moved: all d, or those until the table stands still
   module _ (d m : ℕ) (is : m ≡ min d (p .high + 1)) where
@@ -45,7 +45,7 @@ module _ (p : Pattern) (sound : soundOf p ≡ true) (vs : Sample) (new : Bool) (
         let a : m ≡ p .high + 1 = k .0 in
         let b : m ≤ d = k .1 in
         let y : p .high + 1 + (d - m) ≡ d = omega arith in
-        ap (λ (n : ℕ). written p (meant n) t) a ∙ sym (piece-still p sound vs new t (d - m)) ∙ ap (λ (n : ℕ). written p (meant n) t) y)
+        ap (λ (n : ℕ). written p (meant n) t) a ∙ sym (piece-still p sound before vs t (d - m)) ∙ ap (λ (n : ℕ). written p (meant n) t) y)
         all-or
 
     module _ {A : Type 0} (read : Option (ℤ × ℕ) → A) (l : List A) (z : A) (room : d ≤ length l) where
@@ -68,5 +68,5 @@ module _ (p : Pattern) (sound : soundOf p ≡ true) (vs : Sample) (new : Bool) (
               let all : m + (d - m) ≡ d = omega arith in
               ap (repeated (map told (upTo m) ++ drop m l) m (d - m)) (made-front told m (m - 1) z (drop m l) (omega arith))
               ∙ made-alike told l m (told (m - 1)) z (d - m) (omega arith)
-              (λ i h. (let x : suc (m + i) ≡ p .high + 1 + suc i = omega arith in ap (λ (n : ℕ). read (reportOf p (meant n))) x) ∙ ap read (piece-reports p sound vs new t (suc i)) ∙ sym last)
+              (λ i h. (let x : suc (m + i) ≡ p .high + 1 + suc i = omega arith in ap (λ (n : ℕ). read (reportOf p (meant n))) x) ∙ ap read (piece-reports p sound before vs t (suc i)) ∙ sym last)
               ∙ ap (λ (n : ℕ). map told (upTo n) ++ drop n l) all

@@ -1,7 +1,6 @@
--- The ticks of a piece, by whether its values are new to the state's last ones.
+-- The ticks of a piece, by the last values before it and its own.
 use Prim.Native.Nat.{ℕ, suc}
 use mathlib.Core.List.{List, _++_, map}
-use mathlib.Core.Bool.{Bool}
 use lib.ListN.{drop}
 use lib.IntN.{ℤ}
 use Rattle.pattern.specs.declared.Pattern.{Pattern}
@@ -13,12 +12,12 @@ use Rattle.monitor.specs.Tick.{ticksLater, reportOf, scoreIn, lengthIn}
 use Rattle.monitor.specs.Feed.{pieceView}
 
 -- the table n ticks into the piece
-abbrev pub tableIn : Pattern → (new : Bool) → Sample → (first : List ℤ) → ℕ → Table ℤ Clocks
-tableIn p new vs t n = ticksLater p (pieceView p new vs) (heldBy p t) n
+abbrev pub tableIn : Pattern → (last values : Sample) → (first : List ℤ) → ℕ → Table ℤ Clocks
+tableIn p last vs t n = ticksLater p (pieceView p last vs) (heldBy p t) n
 
 -- both report slices once d ticks are reported
-abbrev pub scoresIn : Pattern → (new : Bool) → Sample → (first : List ℤ) → (d : ℕ) → (scores : List ℤ) → List ℤ
-scoresIn p new vs t d scores = map (λ i. scoreIn (reportOf p (tableIn p new vs t (suc i)))) (upTo d) ++ drop d scores
+abbrev pub scoresIn : Pattern → (last values : Sample) → (first : List ℤ) → (d : ℕ) → (scores : List ℤ) → List ℤ
+scoresIn p last vs t d scores = map (λ i. scoreIn (reportOf p (tableIn p last vs t (suc i)))) (upTo d) ++ drop d scores
 
-abbrev pub lengthsIn : Pattern → (new : Bool) → Sample → (first : List ℤ) → (d : ℕ) → (lengths : List ℕ) → List ℕ
-lengthsIn p new vs t d lengths = map (λ i. lengthIn (reportOf p (tableIn p new vs t (suc i)))) (upTo d) ++ drop d lengths
+abbrev pub lengthsIn : Pattern → (last values : Sample) → (first : List ℤ) → (d : ℕ) → (lengths : List ℕ) → List ℕ
+lengthsIn p last vs t d lengths = map (λ i. lengthIn (reportOf p (tableIn p last vs t (suc i)))) (upTo d) ++ drop d lengths

@@ -9,10 +9,9 @@ use flags::raise_starts;
 use monitor::State;
 use pattern::Pattern;
 use record::rules::least;
-use record::samples::same_sample;
 use table_tick::clear;
 ghost use mathlib.Core.Path.{_≡_};
-ghost use mathlib.Core.Bool.{true, false, not};
+ghost use mathlib.Core.Bool.{true, false};
 ghost use mathlib.Core.Option.{none};
 ghost use Prim.Native.Nat.{_≤_, _<_};
 ghost use mathlib.Core.List.{List, _++_};
@@ -25,9 +24,9 @@ ghost use Rattle.record.specs.Record.{valueInRange};
 ghost use Rattle.flags.specs.Flags.{Flagged};
 ghost use Rattle.monitor.specs.Cells.{layout, written};
 ghost use Rattle.monitor.specs.Tick.{openTable};
-ghost use Rattle.monitor.specs.State.{pieceLater};
+ghost use Rattle.monitor.specs.State.{lastSample, pieceLater};
 ghost use Rattle.monitor.specs.Open.{marks};
-ghost use Rattle.monitor.specs.Feed.{isNew, cellFine, feedCause, tableAfter};
+ghost use Rattle.monitor.specs.Feed.{cellFine, feedCause, tableAfter};
 ghost use Rattle.feed_moves.specs.Piece.{tableIn, scoresIn, lengthsIn};
 
 // The needed cells of the second table are all marks. Only the contract speaks of the pattern.
@@ -64,16 +63,6 @@ pub fn flag_opened(p: Pattern, flags: &mut [u32])
     raise_starts(flags, starts, p.placecount as usize);
 }
 
-// Are the piece's values new to the state's last ones?
-fn is_new(p: Pattern, s: State, values: &[i32]) -> bool
-    requires { ⌜ p .channels ≤ 8 ⌝ }
-    ensures { λ r. ⌜ r ≡ isNew p s (now (values .entry)) ⌝ }
-{
-    let n = p.channels as usize;
-    let last = s.last;
-    !same_sample(values, &last[..n])
-}
-
 // The piece's values, then what stood behind them.
 fn last_after(last: [i32; 8], values: &[i32]) -> [i32; 8]
     requires { ⌜ length (now values) ≤ 8 ⌝ }
@@ -94,7 +83,7 @@ fn last_after(last: [i32; 8], values: &[i32]) -> [i32; 8]
 fn tell_piece(
     p: Pattern,
     l: Layout,
-    new: bool,
+    last: &[i32],
     duration: u32,
     values: &[i32],
     first: &mut [i64],
@@ -106,16 +95,16 @@ fn tell_piece(
         × (cellsNeeded p ≤ length (now first)) × (all cellFine (take (cellsNeeded p) (now first)) ≡ true)
         × (duration ≤ length (now scores)) × (duration ≤ length (now lengths)) × (Flagged (layout p) (now first) (now flags)) ⌝ }
     ensures { λ _. ⌜ now (first .exit)
-        ≡ written p (tableIn p new (now (values .entry)) (now (first .entry)) duration) (now (first .entry)) ⌝ }
+        ≡ written p (tableIn p (now (last .entry)) (now (values .entry)) (now (first .entry)) duration) (now (first .entry)) ⌝ }
     ensures { λ _. ⌜ now (scores .exit)
-        ≡ scoresIn p new (now (values .entry)) (now (first .entry)) duration (now (scores .entry)) ⌝ }
+        ≡ scoresIn p (now (last .entry)) (now (values .entry)) (now (first .entry)) duration (now (scores .entry)) ⌝ }
     ensures { λ _. ⌜ now (lengths .exit)
-        ≡ lengthsIn p new (now (values .entry)) (now (first .entry)) duration (now (lengths .entry)) ⌝ }
+        ≡ lengthsIn p (now (last .entry)) (now (values .entry)) (now (first .entry)) duration (now (lengths .entry)) ⌝ }
     ensures { λ _. ⌜ Flagged (layout p) (now (first .exit)) (now (flags .exit)) ⌝ }
 {
     let w = p.weighing;
-    let v = view_in(p, values, new);
-    let u = view_in(p, values, false);
+    let v = view_in(p, last, values);
+    let u = view_in(p, values, values);
     let edges = p.edges;
     let starts = kind_flags(false, p);
     let ends = kind_flags(true, p);
@@ -160,18 +149,28 @@ pub fn feed_piece(
     ensures { λ r. ⌜ r ≡ pieceLater p s duration (now (values .entry)) ⌝ }
     ensures { λ _. ⌜ now (first .exit)
         ≡ written p (tableAfter p s (now (first .entry)) (now (values .entry)) duration) (now (first .entry)) ⌝ }
-    ensures { λ _. ⌜ now (scores .exit) ≡ scoresIn p (isNew p s (now (values .entry))) (now (values .entry))
+    ensures { λ _. ⌜ now (scores .exit) ≡ scoresIn p (lastSample p s) (now (values .entry))
         (now (first .entry)) duration (now (scores .entry)) ⌝ }
-    ensures { λ _. ⌜ now (lengths .exit) ≡ lengthsIn p (isNew p s (now (values .entry))) (now (values .entry))
+    ensures { λ _. ⌜ now (lengths .exit) ≡ lengthsIn p (lastSample p s) (now (values .entry))
         (now (first .entry)) duration (now (lengths .entry)) ⌝ }
     ensures { λ _. ⌜ Flagged (layout p) (now (first .exit)) (now (flags .exit)) ⌝ }
 {
-    let new = is_new(p, s, values);
-    tell_piece(p, l, new, duration, values, first, flags, scores, lengths);
-    let before = s.last;
-    let last = last_after(before, values);
+    let last = s.last;
+    let n = p.channels as usize;
+    tell_piece(
+        p,
+        l,
+        &last[..n],
+        duration,
+        values,
+        first,
+        flags,
+        scores,
+        lengths,
+    );
+    let after = last_after(last, values);
     State {
         ticks: s.ticks + duration,
-        last: last,
+        last: after,
     }
 }

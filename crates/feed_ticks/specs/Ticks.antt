@@ -28,11 +28,11 @@ abbrev pub kindFlags : (ending : Bool) → Pattern → List Bool
 kindFlags ending p = map (λ l. kindFlag ending (l .kind)) (p .places)
 
 -- What a tick gains in each place.
-abbrev pub gainsOf : Pattern → Sample → (new entered : Bool) → List ℤ
-gainsOf p s new entered = map (λ l. gainIn (p .weighing) l s new entered) (p .places)
+abbrev pub gainsOf : Pattern → (last now : Sample) → (entered : Bool) → List ℤ
+gainsOf p last now entered = map (λ l. gainIn (p .weighing) l last now entered) (p .places)
 
-abbrev pub viewIn : Pattern → Sample → (new : Bool) → View
-viewIn p s new = record { entered = gainsOf p s new true; staying = gainsOf p s new false }
+abbrev pub viewIn : Pattern → (last now : Sample) → View
+viewIn p last now = record { entered = gainsOf p last now true; staying = gainsOf p last now false }
 
 -- What all ticks of a piece have in common.
 pub record Ground : Type 0 where

@@ -8,6 +8,7 @@ use pattern::Place;
 use pattern::distance::place_worth;
 use pattern::is_end;
 use pattern::is_start;
+use record::samples::agree_in;
 use steps::steps_of;
 use table::View;
 use table::links_of;
@@ -15,6 +16,8 @@ use table_tick::tick;
 use weighting::Weighing;
 use weighting::unit;
 ghost use mathlib.Core.Path.{_≡_};
+ghost use mathlib.Core.Bool.{not};
+ghost use Rattle.record.specs.Joined.{agrees};
 ghost use Rattle.book.specs.View.{counts, gainIn};
 ghost use Prim.Native.Nat.{_+_, _-_, _≤_, _<_};
 ghost use lib.ListN.{length, getD, set};
@@ -47,20 +50,27 @@ pub fn kind_flags(ending: bool, p: Pattern) -> [bool; 16]
     flags
 }
 
-// Does a tick count: in margin always, in sum at a just entered place or a new observation.
-fn tick_counts(w: Weighing, new: bool, entered: bool) -> bool
-    ensures { λ r. ⌜ r ≡ counts w new entered ⌝ }
+// Does a tick count in a place: in margin always, in sum if the place was just entered or the tick is a new observation there.
+fn tick_counts(w: Weighing, l: Place, last: &[i32], values: &[i32], entered: bool) -> bool
+    ensures { λ r. ⌜ r ≡ counts w (not (agrees l (now (last .entry)) (now (values .entry)))) entered ⌝ }
 {
     match w {
         Weighing::Margin => true,
-        Weighing::Sum => entered | new,
+        Weighing::Sum => {
+            if entered {
+                true
+            } else {
+                !agree_in(l, last, values)
+            }
+        }
     }
 }
 
-fn gain(w: Weighing, l: Place, values: &[i32], new: bool, entered: bool) -> i64
-    ensures { λ r. ⌜ r ≡ gainIn w l (now (values .entry)) new entered ⌝ }
+// What a tick gains in a place, by the values of the tick before and its own.
+fn gain(w: Weighing, l: Place, last: &[i32], values: &[i32], entered: bool) -> i64
+    ensures { λ r. ⌜ r ≡ gainIn w l (now (last .entry)) (now (values .entry)) entered ⌝ }
 {
-    if tick_counts(w, new, entered) {
+    if tick_counts(w, l, last, values, entered) {
         place_worth(w, l, values)
     } else {
         unit(w)
@@ -68,8 +78,8 @@ fn gain(w: Weighing, l: Place, values: &[i32], new: bool, entered: bool) -> i64
 }
 
 // What a tick gains in each place: in those just entered, and in those stayed in.
-pub fn view_in(p: Pattern, values: &[i32], new: bool) -> View
-    ensures { λ r. ⌜ r ≡ viewIn p (now (values .entry)) new ⌝ }
+pub fn view_in(p: Pattern, last: &[i32], values: &[i32]) -> View
+    ensures { λ r. ⌜ r ≡ viewIn p (now (last .entry)) (now (values .entry)) ⌝ }
 {
     let w = p.weighing;
     let mut entered = [0i64; 16];
@@ -77,8 +87,8 @@ pub fn view_in(p: Pattern, values: &[i32], new: bool) -> View
     let mut i: usize = 0;
     while i < 16 {
         let l = p.places[i];
-        entered[i] = gain(w, l, values, new, true);
-        staying[i] = gain(w, l, values, new, false);
+        entered[i] = gain(w, l, last, values, true);
+        staying[i] = gain(w, l, last, values, false);
         i += 1;
     }
     View {

@@ -24,7 +24,6 @@ use Rattle.pattern.specs.Distance.{Sample}
 use Rattle.pattern.proofs.SoundLaws.{parts}
 use Rattle.pattern.proofs.SlotLaws.{all-append}
 use Rattle.record.specs.Record.{Book, valueInRange}
-use Rattle.record.specs.Joined.{sameSample}
 use Rattle.walks.specs.Automaton.{State as Place}
 use Rattle.walks.specs.Tables.{Table}
 use Rattle.walks.proofs.Cut.{cut, only-passed, only-cells}
@@ -35,7 +34,7 @@ use Rattle.monitor.specs.Cells.{cellStates, heldBy, written}
 use Rattle.monitor.specs.Tick.{openTable, ticksLater}
 use Rattle.monitor.specs.State.{lastSample, stateSound, pieceLater}
 use Rattle.monitor.specs.Open.{marks}
-use Rattle.monitor.specs.Feed.{Call, pieceBroken, tooManyTicks, reportsTooShort, feedCause, feedRefusal, isNew, pieceView, tableAfter}
+use Rattle.monitor.specs.Feed.{Call, pieceBroken, tooManyTicks, reportsTooShort, feedCause, feedRefusal, pieceView, tableAfter}
 use Rattle.monitor.specs.Demand.{refusalBy}
 use Rattle.monitor.proofs.CellLaws.{Celled, of-cells, in-cells}
 use Rattle.monitor.proofs.Sizes.{table-sized, sized-low}
@@ -188,10 +187,9 @@ module _ (p : Pattern) (b : Book) (s : State) (t u : List ℤ) (h : Between p b 
         only-passed 𝓦 A sameClocks (p .high) (cellStates p) (viewOf p b) (viewOf p next) (openTable p) (length b) (λ i f k q. sym (view-front p b (replicate d (c .values)) i f k q)) in
         let same : (y : Place Clocks) → List·Memᴰ y (cellStates p) → heldBy p t y ≡ ticksLater p (viewOf p next) (openTable p) (length b) y =
         λ y i. h .holds y i ∙ ap (λ (U : Table ℤ Clocks). U y) old in
-        let new : isNew p s (c .values) ≡ not (sameSample (c .values) (before p b (length b))) = ap (λ (q : Sample). not (sameSample (c .values) q)) last-is in
-        only-cells 𝓦 A sameClocks (p .high) (cellStates p) (pieceView p (isNew p s (c .values)) (c .values)) (heldBy p t) (ticksLater p (viewOf p next) (openTable p) (length b)) same n x m
-        ∙ ap (λ (U : Table ℤ Clocks). U x) (sym (cut 𝓦 A sameClocks (p .high) (cellStates p) (viewOf p next) (pieceView p (isNew p s (c .values)) (c .values)) (openTable p) (length b) n
-        (λ j f k q. rw new (view-new p b d (c .values) j f k (omega arith)))))
+        only-cells 𝓦 A sameClocks (p .high) (cellStates p) (pieceView p (lastSample p s) (c .values)) (heldBy p t) (ticksLater p (viewOf p next) (openTable p) (length b)) same n x m
+        ∙ ap (λ (U : Table ℤ Clocks). U x) (sym (cut 𝓦 A sameClocks (p .high) (cellStates p) (viewOf p next) (pieceView p (lastSample p s) (c .values)) (openTable p) (length b) n
+        (λ j f k q. rw last-is (view-new p b d (c .values) j f k (omega arith)))))
 
     pub next-fine : (i : ℕ) → i < length next → Fine p (sampleAt next i)
     next-fine i l = by (ltb i (length b)) refl

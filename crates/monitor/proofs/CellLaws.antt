@@ -2,12 +2,11 @@
 use Prim.Native.Nat.{ℕ, zero, suc, _+_, _≤_, _<_, _-_, min}
 use native.Mathlib.Omega.{arith}
 use mathlib.Core.Path.{_≡_, refl, sym, ap, subst, _∙_}
-use mathlib.Core.List.{[], List·Memᴰ}
+use mathlib.Core.List.{List·Memᴰ}
 use mathlib.Core.Bool.{Bool, true, false, cond}
 use borrow.Author.Tests.{lt-ltb, ltb-true, ltb-false}
 use lib.Dec.{eqb, ltb}
-use lib.ListN.{length, getD, drop, length-map, length-drop, List·getD-eq-default}
-use lib.Seq.{getD-drop}
+use lib.ListN.{length, length-map}
 use Rattle.integers.proofs.Tests.{T-true}
 use Rattle.pattern.specs.declared.Edge.{Edge}
 use Rattle.pattern.specs.declared.Pattern.{Pattern}
@@ -15,19 +14,19 @@ use Rattle.pattern.specs.InUse.{placeAt, edgesOf}
 use Rattle.pattern.specs.Kinds as kinds
 use Rattle.pattern.specs.declared.Kind.{Kind}
 use Rattle.pattern.specs.declared.Kind.the-variants.{Start, Plain, End, Both}
-use Rattle.pattern.specs.Slots.{slots}
-use Rattle.pattern.specs.Sound.{noPlace, isPlain, testUnused, placeUnused, soundOf, edgeSound}
+use Rattle.pattern.specs.Sound.{isPlain, placeUnused, soundOf, edgeSound}
 use Rattle.pattern.specs.Clocks.{Clocks, later, afterResets}
 use Rattle.pattern.specs.Cells.{cellsNeeded}
 use Rattle.pattern.proofs.SoundLaws.{both, parts, edge-parts}
 use Rattle.pattern.proofs.ListLaws.{length-zip}
+use Rattle.record.proofs.PlaceLaws.{past-unused}
 use Rattle.walks.specs.Automaton.{State, entering, stayed, taken}
 use Rattle.walks.specs.Walks.{Move, stays, takes}
 use Rattle.walks.specs.Tables.{Closed}
 use Rattle.walks.proofs.States as states
 use Rattle.book.specs.Automaton.{ceilings, held, sameClocks, heldAutomaton}
 use Rattle.book.proofs.Ceilings.{held-by-radices}
-use Rattle.book.proofs.Members.{all-member, at-member}
+use Rattle.book.proofs.Members.{all-member}
 use Rattle.cells.specs.Layout.{layoutOf, Laid, cellsIn}
 use Rattle.cells.specs.Index as cell
 use Rattle.cells.proofs.Layouts.{layout-laid, cells-in-layout, radix-some}
@@ -36,10 +35,6 @@ use Rattle.cells.proofs.Blocks.{found, at}
 use Rattle.cells.proofs.Digits.{ticked-within, reset-within}
 use Rattle.monitor.specs.Cells.{layout, stateAt, indexOf, cellStates, isCell}
 use Rattle.monitor.proofs.Numbers.{made-in, made-only}
-
-none-unused : placeUnused noPlace ≡ true
-unfolding placeUnused slots testUnused
-none-unused = refl
 
 module _ (p : Pattern) (sound : soundOf p ≡ true) where
   pub laid : Laid (layout p)
@@ -153,23 +148,9 @@ module _ (p : Pattern) (sound : soundOf p ≡ true) where
   plain-no-start End e f = let z : _≡_ {A = ℕ} 0 1 = cc in omega arith
   plain-no-start Both e f = let z : _≡_ {A = ℕ} 0 1 = cc in omega arith
 
-  -- a place past the last is as an unused one
-  pub past-unused : (k : ℕ) → p .placecount ≤ k → placeUnused (placeAt p k) ≡ true
-  past-unused k h = by (ltb k (length (p .places))) refl
-    where
-      by : (t : Bool) → ltb k (length (p .places)) ≡ t → placeUnused (placeAt p k) ≡ true
-      by true e =
-          let i : p .placecount + (k - p .placecount) ≡ k = omega arith in
-          let l = length-drop (p .placecount) (p .places) in
-          let in-rest : List·Memᴰ (getD (drop (p .placecount) (p .places)) (k - p .placecount) noPlace) (drop (p .placecount) (p .places)) =
-          at-member (drop (p .placecount) (p .places)) (k - p .placecount) noPlace (let b = ltb-true k (length (p .places)) e in omega arith) in
-          let is : getD (drop (p .placecount) (p .places)) (k - p .placecount) noPlace ≡ placeAt p k = getD-drop (p .placecount) (p .places) (k - p .placecount) noPlace ∙ ap (placeAt p) i in
-          rw is at (all-member placeUnused (drop (p .placecount) (p .places)) (parts p sound .places .rest) _ in-rest)
-      by false e = rw (List·getD-eq-default (p .places) noPlace {n = k} (ltb-false _ _ e)) none-unused
-
   past-plain : (k : ℕ) → p .placecount ≤ k → isPlain (placeAt p k .kind) ≡ true
   unfolding placeUnused
-  past-plain k h = both _ _ (both _ _ (past-unused k h) .0) .0
+  past-plain k h = both _ _ (both _ _ (past-unused p sound k h) .0) .0
 
   start-low : (k : ℕ) → kinds.isStart (placeAt p k .kind) ≡ true → k < p .placecount
   start-low k h = by (ltb k (p .placecount)) refl

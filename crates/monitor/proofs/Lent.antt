@@ -5,7 +5,6 @@ use mathlib.Core.Path.{_≡_, refl, sym, ap, subst, _∙_}
 use mathlib.Core.Logic.{_⊎_}
 use mathlib.Core.List.{List}
 use mathlib.Core.Option.{Option, none}
-use mathlib.Core.Bool.{not}
 use lib.ListN.{length, drop, getD}
 use lib.Seq.{take-at, drop-at}
 use lib.IntN.{ℤ, pos}
@@ -19,8 +18,6 @@ use Rattle.pattern.specs.Clocks.{Clocks}
 use Rattle.pattern.specs.Cells.{cellsNeeded}
 use Rattle.pattern.specs.Distance.{Sample}
 use Rattle.pattern.proofs.SoundLaws.{parts}
-use Rattle.record.specs.Joined.{sameSample}
-use Rattle.record.proofs.JoinedLaws.{same-self}
 use Rattle.walks.specs.Tables.{Table, next}
 use Rattle.walks.proofs.TableBest.{table-best}
 use Rattle.walks.proofs.Entries.{reports-reached}
@@ -30,7 +27,7 @@ use Rattle.monitor.specs.Cells.{stateAt, indexOf, cellStates, heldBy, wr
 use Rattle.monitor.specs.Tick.{ticksLater, reportOf}
 use Rattle.monitor.specs.State.{lastSample, pieceLater}
 use Rattle.monitor.specs.Open.{unlessRefused}
-use Rattle.monitor.specs.Feed.{Call, feedRefusal, isNew, pieceView, tableAfter, reportAfter, feedState, feedFirst, feedSecond, feedScores, feedLengths}
+use Rattle.monitor.specs.Feed.{Call, feedRefusal, pieceView, tableAfter, reportAfter, feedState, feedFirst, feedSecond, feedScores, feedLengths}
 use Rattle.monitor.specs.Demand.{BestAmong, NoneAmong}
 use Rattle.monitor.specs.Between.{Aside}
 use Rattle.monitor.specs.Lent.{CellsSayWorths, valuesBefore, callView, Reached, EndsThere, FedFrom, LentTablesFed}
@@ -49,10 +46,10 @@ cells-say-worths p sound t =
     }
 
 -- the view of the piece's ticks, by what each is compared with
-view-is : (p : Pattern) (s : State) (vs : Sample) (i : ℕ) → pieceView p (isNew p s vs) vs i ≡ callView p s vs i
+view-is : (p : Pattern) (s : State) (vs : Sample) (i : ℕ) → pieceView p (lastSample p s) vs i ≡ callView p s vs i
 unfolding pieceView
 view-is p s vs zero = refl
-view-is p s vs (suc i) = rw (same-self vs)
+view-is p s vs (suc i) = refl
 
 module _ (p : Pattern) (s : State) (t u : List ℤ) (c : Call) (given : feedRefusal p s t u c ≡ none) where
   abbrev vs : Sample
@@ -76,7 +73,7 @@ module _ (p : Pattern) (s : State) (t u : List ℤ) (c : Call) (given : feedRefu
       let a = celled-at p (ok .sound) i l in
       let low = a .low in
       let high = parts p (ok .sound) .shortHigh in
-      let h = lent-sized p (ok .sound) (callView p s vs) (λ j f k g q. tick-sized p (ok .sound) vs (ok .piece .values) (not (sameSample vs (valuesBefore p s vs j))) f k g q)
+      let h = lent-sized p (ok .sound) (callView p s vs) (λ j f k g q. tick-sized p (ok .sound) (valuesBefore p s vs j) vs (ok .piece .values) f k g q)
       (heldBy p t) (held-low p (ok .sound) t (ok .tables .first) (ok .cells)) n (stateAt p i) mark (in-cells p (ok .sound) (stateAt p i) a) e in
       small-no-mark mark (omega arith) refl
 

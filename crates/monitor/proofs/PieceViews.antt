@@ -2,15 +2,13 @@
 use Prim.Native.Nat.{ℕ, zero, suc, _+_, _-_, _≤_, _<_}
 use native.Mathlib.Omega.{arith}
 use mathlib.Core.Path.{_≡_, refl, sym, subst, _∙_}
-use mathlib.Core.List.{List, [], _++_}
-use mathlib.Core.Bool.{Bool, not}
-use lib.ListN.{length, getD, replicate, getD-replicate, List·getD-append}
+use mathlib.Core.List.{[], _++_}
+use mathlib.Core.Bool.{Bool}
+use lib.ListN.{length, replicate, getD-replicate, List·getD-append}
 use lib.Seq.{getD-append-add}
 use Rattle.pattern.specs.declared.Pattern.{Pattern}
 use Rattle.pattern.specs.Distance.{Sample}
 use Rattle.record.specs.Record.{Book}
-use Rattle.record.specs.Joined.{sameSample}
-use Rattle.record.proofs.JoinedLaws.{same-self}
 use Rattle.book.specs.View.{sampleAt, before, viewOf}
 use Rattle.monitor.specs.Feed.{pieceView}
 
@@ -44,10 +42,10 @@ module _ (p : Pattern) (b : Book) (d : ℕ) (vs : Sample) where
   pub before-end : 1 ≤ d → before p longer (length b + d) ≡ vs
   before-end h = let e : d ≡ suc (d - 1) = omega arith in subst (λ (n : ℕ). before p longer (length b + n) ≡ vs) (sym e) (before-new (d - 1) (omega arith))
 
-  pub view-new : (j : ℕ) (f : Bool) (k : ℕ) → j < d → viewOf p longer (length b + j) f k ≡ pieceView p (not (sameSample vs (before p b (length b)))) vs j f k
+  pub view-new : (j : ℕ) (f : Bool) (k : ℕ) → j < d → viewOf p longer (length b + j) f k ≡ pieceView p (before p b (length b)) vs j f k
   unfolding pieceView
   view-new zero f k h =
       let z : length b + 0 ≡ length b = omega arith in
       rw (sample-new 0 h, z, before-front p b (replicate d vs) (length b) (omega arith))
   view-new (suc j) f k h =
-      rw (sample-new (suc j) h, before-new j (omega arith), same-self vs)
+      rw (sample-new (suc j) h, before-new j (omega arith))

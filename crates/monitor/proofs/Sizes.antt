@@ -5,34 +5,31 @@ use native.Mathlib.Omega.{arith}
 use mathlib.Core.Path.{_≡_, refl, ap, subst}
 use mathlib.Core.List.{List·Memᴰ}
 use mathlib.Core.Option.{some, Option·some-injective}
-use mathlib.Core.Bool.{Bool, true, false, not, cond, _&&_}
-use borrow.Author.Tests.{ltb-true, ltb-false, eqb-true}
-use lib.Dec.{eqb, ltb}
+use mathlib.Core.Bool.{Bool, true, false, not, cond}
+use borrow.Author.Tests.{ltb-true, ltb-false}
+use lib.Dec.{ltb}
 use lib.IntN.{ℤ, natAbs}
 use Rattle.integers.proofs.Ranges.{abs-add, abs-min}
 use Rattle.weighting.specs.declared.Weighing.{Weighing}
 use Rattle.weighting.specs.declared.Weighing.the-variants.{Margin, Sum}
-use Rattle.weighting.specs.Weighting.{combineFrom}
 use Rattle.weighting.specs.Weightings.{weightingOf}
 use Rattle.pattern.specs.declared.Pattern.{Pattern}
 use Rattle.pattern.specs.InUse.{placeAt}
 use Rattle.pattern.specs.Slots.{all}
-use Rattle.pattern.specs.Sound.{isPlain, placeUnused, soundOf}
+use Rattle.pattern.specs.Sound.{soundOf}
 use Rattle.pattern.specs.Clocks.{Clocks}
-use Rattle.pattern.specs.Distance.{Sample, distancesOf, placeWorth}
-use Rattle.pattern.proofs.SoundLaws.{both}
+use Rattle.pattern.specs.Distance.{Sample, placeWorth}
 use Rattle.record.specs.Record.{Book, valueInRange}
-use Rattle.record.specs.Joined.{sameSample}
-use Rattle.record.proofs.PlaceLaws.{place-at-sound, margin-place-size, place-size}
+use Rattle.record.specs.Joined.{agrees}
+use Rattle.record.proofs.PlaceLaws.{place-at-sound, margin-place-size, place-size, testless-worth, past-testless}
 use Rattle.walks.specs.Automaton.{State, View}
 use Rattle.walks.specs.Tables.{Table}
 use Rattle.walks.proofs.States.{opening-holds}
 use Rattle.walks.proofs.Kept.{kept}
-use Rattle.book.specs.View.{counts, gainIn, tickView, sampleAt, before, viewOf}
+use Rattle.book.specs.View.{counts, gainBy, gainIn, tickView, sampleAt, before, viewOf}
 use Rattle.book.specs.Automaton.{sameClocks, heldAutomaton}
 use Rattle.monitor.specs.Cells.{cellStates}
 use Rattle.monitor.specs.Tick.{openTable, ticksLater}
-use Rattle.monitor.proofs.CellLaws.{past-unused}
 
 -- the size of a worth of length l
 abbrev pub Sized : Weighing → ℕ → ℤ → Type 0
@@ -60,13 +57,6 @@ sized-low Sum l z h k = omega arith
 -- ---- the gains of a book's ticks
 
 module _ (p : Pattern) (sound : soundOf p ≡ true) where
-  -- a place past the last has no tests
-  past-worth : (w : Weighing) (k : ℕ) (x : Sample) → p .placecount ≤ k → placeWorth w (placeAt p k) x ≡ weightingOf w .unit
-  unfolding placeWorth distancesOf placeUnused combineFrom
-  past-worth w k x h =
-      let e : placeAt p k .count ≡ 0 = eqb-true _ _ (both (isPlain (placeAt p k .kind)) (eqb (placeAt p k .count) 0) (both (isPlain (placeAt p k .kind) && eqb (placeAt p k .count) 0) _ (past-unused p sound k h) .0) .1) in
-      rw e
-
   place-sized : (w : Weighing) (k : ℕ) (x : Sample) → all valueInRange x ≡ true → GainSized w (placeWorth w (placeAt p k) x)
   place-sized w k x h = by (ltb k (p .placecount)) refl
     where
@@ -80,17 +70,19 @@ module _ (p : Pattern) (sound : soundOf p ≡ true) where
 
       by : (t : Bool) → ltb k (p .placecount) ≡ t → GainSized w (placeWorth w (placeAt p k) x)
       by true e = here w (ltb-true _ _ e)
-      by false e = rw (past-worth w k x (ltb-false _ _ e)) (unit-gain w)
+      by false e = rw (testless-worth w (placeAt p k) (past-testless p sound k (ltb-false _ _ e)) x) (unit-gain w)
 
   pub gain-sized : (w : Weighing) (k : ℕ) (x : Sample) (t : Bool) → all valueInRange x ≡ true → GainSized w (cond t (placeWorth w (placeAt p k) x) (weightingOf w .unit))
   gain-sized w k x true h = place-sized w k x h
   gain-sized Margin k x false h = omega arith
   gain-sized Sum k x false h = omega arith
 
-  pub tick-sized : (x : Sample) → all valueInRange x ≡ true → (new f : Bool) (k : ℕ) (g : ℤ) → tickView p x new f k ≡ some g → GainSized (p .weighing) g
-  unfolding gainIn
-  tick-sized x fine new f k g q =
-      subst (GainSized (p .weighing)) (Option·some-injective _ g q) (gain-sized (p .weighing) k x (counts (p .weighing) new f) fine)
+  pub gain-in-sized : (last x : Sample) → all valueInRange x ≡ true → (f : Bool) (k : ℕ) → GainSized (p .weighing) (gainIn (p .weighing) (placeAt p k) last x f)
+  unfolding gainBy
+  gain-in-sized last x fine f k = gain-sized (p .weighing) k x (counts (p .weighing) (not (agrees (placeAt p k) last x)) f) fine
+
+  pub tick-sized : (last x : Sample) → all valueInRange x ≡ true → (f : Bool) (k : ℕ) (g : ℤ) → tickView p last x f k ≡ some g → GainSized (p .weighing) g
+  tick-sized last x fine f k g q = subst (GainSized (p .weighing)) (Option·some-injective _ g q) (gain-in-sized last x fine f k)
 
   open-sized : (s : State Clocks) (z : ℤ) → openTable p s ≡ some z → Sized (p .weighing) (s .len) z
   open-sized s z e =
@@ -104,7 +96,7 @@ module _ (p : Pattern) (sound : soundOf p ≡ true) where
   table-sized b fine n s z m e =
       kept (weightingOf (p .weighing)) (heldAutomaton p) sameClocks (p .high) (cellStates p)
       (Sized (p .weighing)) (unit-sized (p .weighing)) (viewOf p b)
-      (λ t f k g l w q h. combine-sized (p .weighing) l w g h (tick-sized (sampleAt b t) (fine t) (not (sameSample (sampleAt b t) (before p b t))) f k g q))
+      (λ t f k g l w q h. combine-sized (p .weighing) l w g h (tick-sized (before p b t) (sampleAt b t) (fine t) f k g q))
       (openTable p) (λ x w i q. open-sized x w q)
       n s z m e
 

@@ -4,7 +4,7 @@ use Prim.Native.Nat.{ℕ, zero, suc, _+_}
 use mathlib.Core.Path.{_≡_}
 use mathlib.Core.List.{List, [], _∷_, _++_, map}
 use mathlib.Core.Option.{Option}
-use mathlib.Core.Bool.{Bool, false, not, cond, _&&_, _||_}
+use mathlib.Core.Bool.{Bool, not, cond, _&&_, _||_}
 use lib.Dec.{eqb, leb, ltb}
 use lib.ListN.{length, take, drop}
 use lib.IntN.{ℤ, natAbs}
@@ -19,7 +19,6 @@ use Rattle.pattern.specs.Clocks.{Clocks}
 use Rattle.pattern.specs.Cells.{cellsNeeded}
 use Rattle.pattern.specs.Distance.{Sample}
 use Rattle.record.specs.Record.{valueInRange}
-use Rattle.record.specs.Joined.{sameSample}
 use Rattle.walks.specs.Automaton.{View}
 use Rattle.walks.specs.Tables.{Table}
 use Rattle.book.specs.View.{tickView}
@@ -77,18 +76,15 @@ feedRefusal p s t u c =
 
 -- ---- the ticks of the piece
 
--- Whether the piece's values are new: "at a call's first tick these are the state's last values, at ticks 0 too".
-abbrev pub isNew : Pattern → State → Sample → Bool
-isNew p s vs = not (sameSample vs (lastSample p s))
+-- The first tick comes after the last values before the piece, and may be a new observation in some places and not in others. The
+-- later ones come after the piece's own values, and are none in any place.
+unfoldable pub pieceView : Pattern → (last values : Sample) → View ℤ
+pieceView p last vs zero = tickView p last vs
+pieceView p last vs (suc t) = tickView p vs vs
 
--- The first tick may bring a new observation, the later ones of the piece do not.
-unfoldable pub pieceView : Pattern → (new : Bool) → Sample → View ℤ
-pieceView p new vs zero = tickView p vs new
-pieceView p new vs (suc t) = tickView p vs false
-
--- The table n ticks into the piece.
+-- The table n ticks into the piece. The last values before it are the state's, at ticks 0 too.
 abbrev pub tableAfter : Pattern → State → (first : List ℤ) → Sample → ℕ → Table ℤ Clocks
-tableAfter p s t vs n = ticksLater p (pieceView p (isNew p s vs) vs) (heldBy p t) n
+tableAfter p s t vs n = ticksLater p (pieceView p (lastSample p s) vs) (heldBy p t) n
 
 -- ---- the call: what it answers, and what the state and both tables are afterwards; at a refusal as they were
 

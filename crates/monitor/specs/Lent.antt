@@ -7,7 +7,7 @@ use mathlib.Core.Path.{_≡_}
 use mathlib.Core.Logic.{_⊎_}
 use mathlib.Core.List.{List}
 use mathlib.Core.Option.{none, some}
-use mathlib.Core.Bool.{true, not}
+use mathlib.Core.Bool.{true}
 use lib.ListN.{length, drop, getD}
 use lib.IntN.{ℤ, pos}
 use Rattle.weighting.specs.Order.{IsBest}
@@ -18,7 +18,6 @@ use Rattle.pattern.specs.Sound.{soundOf}
 use Rattle.pattern.specs.Clocks.{Clocks}
 use Rattle.pattern.specs.Cells.{cellsNeeded}
 use Rattle.pattern.specs.Distance.{Sample}
-use Rattle.record.specs.Joined.{sameSample}
 use Rattle.walks.specs.Automaton.{State as RunState, View}
 use Rattle.walks.specs.Walks.{Reach}
 use Rattle.walks.specs.Reports.{MayEnd}
@@ -45,15 +44,15 @@ CellsSayWorths = (p : Pattern) → soundOf p ≡ true → (t : List ℤ) → Sai
 -- ---- the ticks of a call
 
 -- The values that a tick of the call is compared with: at the first the state's last values, "at ticks 0 too"; at a later one
--- the piece's own.
+-- the piece's own. (Said here apart from feeding's own definition, which is judged by it.)
 abbrev pub valuesBefore : Pattern → State → Sample → (tick : ℕ) → Sample
 valuesBefore p s vs zero = lastSample p s
 valuesBefore p s vs (suc i) = vs
 
--- A tick brings a new piece exactly where its values differ from those. (What that means to a worth is said by `tickView`: in sum
--- it counts for a cell that stays.)
+-- A tick is a new observation in a place exactly where the two do not agree there. (What that means to a worth is said by
+-- `tickView`: in sum it counts for a cell that stays.)
 abbrev pub callView : Pattern → State → Sample → View ℤ
-callView p s vs i = tickView p vs (not (sameSample vs (valuesBefore p s vs i)))
+callView p s vs i = tickView p (valuesBefore p s vs i) vs
 
 -- What is reached n ticks into the call, by its state and worth. By `Reach`, before the first tick it is what the lent cells hold
 -- and nothing else; after each tick it is what moved from there, and the empty run in every start place.

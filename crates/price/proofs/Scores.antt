@@ -24,7 +24,7 @@ use Rattle.pattern.specs.Distance.{Sample, placeWorth}
 use Rattle.pattern.proofs.SoundLaws.{both}
 use Rattle.pattern.proofs.SlotLaws.{all-append}
 use Rattle.record.specs.Record.{Book, ticksOf, piecesOf, bookOf, valueInRange, recordSound}
-use Rattle.record.specs.Joined.{sameSample, absorb, joined, observed}
+use Rattle.record.specs.Joined.{agrees, absorb, joined, observed}
 use Rattle.record.specs.Run.{Step, canStep, clocksAfter, goes, isRun, lengthOf, stepsOf}
 use Rattle.record.specs.Worth.{stayWorth, stayWorths, runWorth, priceOf}
 use Rattle.record.proofs.ListLaws.{all-take, all-drop}
@@ -67,29 +67,29 @@ ticks-range n (d ∷ ds) vs h =
     all-append (all valueInRange) (replicate d (take n vs)) (ticksOf (piecesOf n ds (drop n vs)))
     ∙ rw (same-range d (take n vs) (all-take valueInRange n vs h), ticks-range n ds (drop n vs) (all-drop valueInRange n vs h))
 
-joined-range : (b : Book) → all (all valueInRange) b ≡ true → all (all valueInRange) (joined b) ≡ true
+joined-range : (same : Sample → Sample → Bool) (b : Book) → all (all valueInRange) b ≡ true → all (all valueInRange) (joined same b) ≡ true
 unfolding joined absorb
-joined-range [] h = refl
-joined-range (x ∷ b) h = let k = both (all valueInRange x) (all (all valueInRange) b) h in absorbed (joined b) (k .0) (joined-range b (k .1))
+joined-range same [] h = refl
+joined-range same (x ∷ b) h = let k = both (all valueInRange x) (all (all valueInRange) b) h in absorbed (joined same b) (k .0) (joined-range same b (k .1))
   where
-    absorbed : (ys : List Sample) → all valueInRange x ≡ true → all (all valueInRange) ys ≡ true → all (all valueInRange) (absorb x ys) ≡ true
+    absorbed : (ys : List Sample) → all valueInRange x ≡ true → all (all valueInRange) ys ≡ true → all (all valueInRange) (absorb same x ys) ≡ true
     absorbed [] e f = rw e
-    absorbed (y ∷ ys) e f = by (sameSample x y)
+    absorbed (y ∷ ys) e f = by (same x y)
       where
-        by : (t : Bool) → all (all valueInRange) (cond t (y ∷ ys) (x ∷ y ∷ ys)) ≡ true
-        by true = f
+        by : (t : Bool) → all (all valueInRange) (cond t (x ∷ ys) (x ∷ y ∷ ys)) ≡ true
+        by true = rw e (both (all valueInRange y) (all (all valueInRange) ys) f .1)
         by false = rw e f
 
-joined-short : (b : Book) → length (joined b) ≤ length b
+joined-short : (same : Sample → Sample → Bool) (b : Book) → length (joined same b) ≤ length b
 unfolding joined absorb
-joined-short [] = omega arith
-joined-short (x ∷ b) = let k = joined-short b in let l = absorbed (joined b) in omega arith
+joined-short same [] = omega arith
+joined-short same (x ∷ b) = let k = joined-short same b in let l = absorbed (joined same b) in omega arith
   where
-    absorbed : (ys : List Sample) → length (absorb x ys) ≤ suc (length ys)
+    absorbed : (ys : List Sample) → length (absorb same x ys) ≤ suc (length ys)
     absorbed [] = omega arith
-    absorbed (y ∷ ys) = by (sameSample x y)
+    absorbed (y ∷ ys) = by (same x y)
       where
-        by : (t : Bool) → length (cond t (y ∷ ys) (x ∷ y ∷ ys)) ≤ suc (suc (length ys))
+        by : (t : Bool) → length (cond t (x ∷ ys) (x ∷ y ∷ ys)) ≤ suc (suc (length ys))
         by true = omega arith
         by false = omega arith
 
@@ -115,8 +115,9 @@ module _ (p : Pattern) (sound : soundOf p ≡ true) where
     unfolding stayWorth observed
     stay-sized k t n h =
         let seen = take n (drop t b) in
-        longer (p .weighing) (0 + length (joined seen)) n (stayWorth p b k t n) (omega (arith, joined-short seen, length-take n (drop t b)))
-        (seen-sized (p .weighing) k 0 (weightingOf (p .weighing) .unit) (joined seen) h (joined-range seen (all-take (all valueInRange) n (drop t b) (all-drop (all valueInRange) t b fine))) (unit-sized (p .weighing)))
+        let same = agrees (placeAt p k) in
+        longer (p .weighing) (0 + length (joined same seen)) n (stayWorth p b k t n) (omega (arith, joined-short same seen, length-take n (drop t b)))
+        (seen-sized (p .weighing) k 0 (weightingOf (p .weighing) .unit) (joined same seen) h (joined-range same seen (all-take (all valueInRange) n (drop t b) (all-drop (all valueInRange) t b fine))) (unit-sized (p .weighing)))
 
     stays-sized : (k : ℕ) (cs : Clocks) (t n : ℕ) (a : ℤ) (xs : List Step) → goes p k cs xs ≡ true → Sized (p .weighing) n a
         → Sized (p .weighing) (n + lengthOf xs) (combineFrom (weightingOf (p .weighing)) a (stayWorths p b t xs))

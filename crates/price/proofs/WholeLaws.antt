@@ -24,7 +24,7 @@ use Rattle.pattern.proofs.SoundLaws.{both}
 use Rattle.price.specs.declared.Begin.{Begin}
 use Rattle.price_runs.specs.declared.Stand.{Stand}
 use Rattle.record.specs.Record.{Book, ticksOf, piecesOf, bookOf, total}
-use Rattle.record.specs.Joined.{joined, observed}
+use Rattle.record.specs.Joined.{agrees, joined, observed}
 use Rattle.record.specs.Run.{Step, canStep, clocksAfter, goes, isRun, lengthOf, stepsOf}
 use Rattle.record.specs.Worth.{stayWorth, stayWorths, runWorth, priceOf}
 use Rattle.price.specs.Price.{stepsFit}
@@ -66,17 +66,17 @@ score-is p b a k cs [] h = rw (le-leb 0 (length b) (omega arith)) (by (isEnd (pl
     by false = refl
 score-is p b a k cs (x ∷ xs) h =
     let W = weightingOf (p .weighing) in
-    let obs = map (placeWorth (p .weighing) (placeAt p (edgeAt p (x .edge) .from))) (joined (take (x .stay) b)) in
+    let obs = map (placeWorth (p .weighing) (placeAt p (edgeAt p (x .edge) .from))) (joined (agrees (placeAt p (edgeAt p (x .edge) .from))) (take (x .stay) b)) in
     let a' = combineFrom W a obs in
     let b' = drop (x .stay) b in
     rw (score-is p b' a' (edgeAt p (x .edge) .to) (clocksAfter p cs x) xs (stays-worth-all (p .weighing) a obs h), length-drop (x .stay) b, leb-split (x .stay) (lengthOf xs) (length b), flat)
     (by (canStep p k cs x) (leb (x .stay) (length b)) (goes p (edgeAt p (x .edge) .to) (clocksAfter p cs x) xs) (leb (lengthOf xs) (length b - x .stay)) _)
   where
     flat : combineFrom (weightingOf (p .weighing)) (weightingOf (p .weighing) .combine a (stayWorth p b (edgeAt p (x .edge) .from) 0 (x .stay))) (stayWorths p b (0 + x .stay) xs)
-        ≡ combineFrom (weightingOf (p .weighing)) (combineFrom (weightingOf (p .weighing)) a (map (placeWorth (p .weighing) (placeAt p (edgeAt p (x .edge) .from))) (joined (take (x .stay) b)))) (stayWorths p (drop (x .stay) b) 0 xs)
+        ≡ combineFrom (weightingOf (p .weighing)) (combineFrom (weightingOf (p .weighing)) a (map (placeWorth (p .weighing) (placeAt p (edgeAt p (x .edge) .from))) (joined (agrees (placeAt p (edgeAt p (x .edge) .from))) (take (x .stay) b)))) (stayWorths p (drop (x .stay) b) 0 xs)
     flat =
         let W = weightingOf (p .weighing) in
-        let obs = map (placeWorth (p .weighing) (placeAt p (edgeAt p (x .edge) .from))) (joined (take (x .stay) b)) in
+        let obs = map (placeWorth (p .weighing) (placeAt p (edgeAt p (x .edge) .from))) (joined (agrees (placeAt p (edgeAt p (x .edge) .from))) (take (x .stay) b)) in
         let zero-first : 0 + x .stay ≡ x .stay + 0 = omega arith in
         rw (zero-first, worths-shift p b (x .stay) 0 xs, ← combineFrom-combine W a (W .unit) obs, W .unit-right a h)
 

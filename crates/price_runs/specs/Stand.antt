@@ -18,7 +18,7 @@ use Rattle.pattern.specs.Distance.{placeWorth}
 use Rattle.pattern.specs.Sound.{soundOf}
 use Rattle.price_runs.specs.declared.Stand.{Stand}
 use Rattle.record.specs.Record.{Book, recordSound}
-use Rattle.record.specs.Joined.{joined}
+use Rattle.record.specs.Joined.{agrees, joined}
 use Rattle.record.specs.Run.{Step, canStep, clocksAfter}
 use Rattle.price_stays.specs.Walk.{Stands, ahead}
 
@@ -36,7 +36,7 @@ scoreFrom p b a k cs [] = cond (isEnd (placeAt p k .kind)) (some a) none
 scoreFrom p b a k cs (x ∷ xs) =
     cond (canStep p k cs x && leb (x .stay) (length b))
     (scoreFrom p (drop (x .stay) b)
-    (combineFrom (weightingOf (p .weighing)) a (map (placeWorth (p .weighing) (placeAt p (edgeAt p (x .edge) .from))) (joined (take (x .stay) b))))
+    (combineFrom (weightingOf (p .weighing)) a (map (placeWorth (p .weighing) (placeAt p (edgeAt p (x .edge) .from))) (joined (agrees (placeAt p (edgeAt p (x .edge) .from))) (take (x .stay) b))))
     (edgeAt p (x .edge) .to)
     (clocksAfter p cs x)
     xs)

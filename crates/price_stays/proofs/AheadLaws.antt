@@ -8,26 +8,27 @@ use mathlib.Core.Bool.{cond}
 use lib.ListN.{length, take, drop, getD, replicate, length-append, length-replicate, drop-of-length-le}
 use lib.Seq.{drop-nil, drop-append-le, drop-drop, drop-at, take-append-le}
 use lib.IntN.{ℤ}
+use Rattle.pattern.specs.declared.Place.{Place}
 use Rattle.pattern.specs.Distance.{Sample}
 use Rattle.record.specs.Record.{Book, ticksOf, piecesOf, sampleAt}
-use Rattle.record.specs.Joined.{joined, freshAfter}
+use Rattle.record.specs.Joined.{agrees, joined, freshAfter}
 use Rattle.record.proofs.ListLaws.{drop-replicate, take-replicate}
-use Rattle.record.proofs.JoinedLaws.{joined-fresh, fresh-same}
+use Rattle.record.proofs.JoinedLaws.{joined-fresh, fresh-same, agrees-self}
 use Rattle.record.proofs.RecordLaws.{drop-pieces, piece-at}
 use Rattle.price_stays.specs.Walk.{ahead, newTo, joinsTo}
 
 -- ---- what is new
 
-pub new-nothing : (o : Option Sample) → newTo o [] ≡ []
+pub new-nothing : (l : Place) (o : Option Sample) → newTo l o [] ≡ []
 unfolding newTo joined freshAfter
-new-nothing none = refl
-new-nothing (some p) = refl
+new-nothing l none = refl
+new-nothing l (some p) = refl
 
 -- a stretch of equal samples is one observation, or none where it joins the one before
-pub new-stretch : (o : Option Sample) (m : ℕ) (x : Sample) (b : Book) → newTo o (replicate (suc m) x ++ b) ≡ cond (joinsTo o x) (newTo (some x) b) (x ∷ newTo (some x) b)
+pub new-stretch : (l : Place) (o : Option Sample) (m : ℕ) (x : Sample) (b : Book) → newTo l o (replicate (suc m) x ++ b) ≡ cond (joinsTo l o x) (newTo l (some x) b) (x ∷ newTo l (some x) b)
 unfolding newTo joinsTo freshAfter
-new-stretch none m x b = joined-fresh x (replicate m x ++ b) ∙ ap (_∷_ x) (fresh-same m x b)
-new-stretch (some p) m x b = rw (fresh-same m x b)
+new-stretch l none m x b = joined-fresh (agrees l) x (replicate m x ++ b) ∙ ap (_∷_ x) (fresh-same (agrees l) m x b (agrees-self l x))
+new-stretch l (some p) m x b = rw (fresh-same (agrees l) m x b (agrees-self l x))
 
 -- ---- where it stands
 

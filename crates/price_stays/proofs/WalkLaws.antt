@@ -29,24 +29,24 @@ use Rattle.record.proofs.RecordLaws.{sample-within, parts, lasts-at}
 
 -- ---- over plain lists
 
-module _ (W : Weighting ℤ) (f : Sample → ℤ) where
+module _ (W : Weighting ℤ) (l : Place) (f : Sample → ℤ) where
   -- one observation more, unless it joins the one before
-  observed-one : (t : Bool) (a : ℤ) (x : Sample) (l : List Sample)
-      → combineFrom W (cond t a (W .combine a (f x))) (map f l) ≡ combineFrom W a (map f (cond t l (x ∷ l)))
+  observed-one : (t : Bool) (a : ℤ) (x : Sample) (ys : List Sample)
+      → combineFrom W (cond t a (W .combine a (f x))) (map f ys) ≡ combineFrom W a (map f (cond t ys (x ∷ ys)))
   unfolding combineFrom
-  observed-one true a x l = refl
-  observed-one false a x l = refl
+  observed-one true a x ys = refl
+  observed-one false a x ys = refl
 
   -- m ticks of one sample, and k that follow
   pub stretch-worth : (o : Option Sample) (a : ℤ) (x : Sample) (m k : ℕ) (b : Book) → 0 < m → take m b ≡ replicate m x
-      → combineFrom W (cond (joinsTo o x) a (W .combine a (f x))) (map f (newTo (some x) (take k (drop m b)))) ≡ combineFrom W a (map f (newTo o (take (m + k) b)))
+      → combineFrom W (cond (joinsTo l o x) a (W .combine a (f x))) (map f (newTo l (some x) (take k (drop m b)))) ≡ combineFrom W a (map f (newTo l o (take (m + k) b)))
   stretch-worth o a x zero k b h e = absurd (omega arith)
   stretch-worth o a x (suc m) k b h e =
-      observed-one (joinsTo o x) a x (newTo (some x) (take k (drop (suc m) b)))
-      ∙ ap (λ (l : List Sample). combineFrom W a (map f l)) (sym (new-stretch o m x (take k (drop (suc m) b))) ∙ ap (newTo o) (sym split))
+      observed-one (joinsTo l o x) a x (newTo l (some x) (take k (drop (suc m) b)))
+      ∙ ap (λ (ys : List Sample). combineFrom W a (map f ys)) (sym (new-stretch l o m x (take k (drop (suc m) b))) ∙ ap (newTo l o) (sym split))
     where
       split : take (suc m + k) b ≡ replicate (suc m) x ++ take k (drop (suc m) b)
-      split = take-add (suc m) k b ∙ ap (λ (l : Book). l ++ take k (drop (suc m) b)) e
+      split = take-add (suc m) k b ∙ ap (λ (ys : Book). ys ++ take k (drop (suc m) b)) e
 
 -- ---- a turn
 
@@ -84,7 +84,7 @@ module _ (w : Weighing) (l : Place) (n : ℕ) (ds : List ℕ) (vs : List ℤ) (f
 
   next-size : natAbs next ≤ natAbs (s .worth) + 8000000
   unfolding next
-  next-size = by (joinsTo (seenAt n vs first (s .piece)) (sampleAt n vs (s .piece)))
+  next-size = by (joinsTo l (seenAt n vs first (s .piece)) (sampleAt n vs (s .piece)))
     where
       by : (t : Bool) → natAbs (cond t (s .worth) (weightingOf w .combine (s .worth) (placeWorth w l (sampleAt n vs (s .piece))))) ≤ natAbs (s .worth) + 8000000
       by true = omega arith
@@ -98,7 +98,7 @@ module _ (w : Weighing) (l : Place) (n : ℕ) (ds : List ℕ) (vs : List ℤ) (f
       let B = ahead n ds vs (s .piece) (s .used) in
       let o = seenAt n vs first (s .piece) in
       let x = sampleAt n vs (s .piece) in
-      let nothing : newTo o (take 0 (ahead n ds vs (s .piece) (s .used + s .left))) ≡ newTo (some x) (take 0 (drop (s .left) B)) = new-nothing o ∙ sym (new-nothing (some x)) in
+      let nothing : newTo l o (take 0 (ahead n ds vs (s .piece) (s .used + s .left))) ≡ newTo l (some x) (take 0 (drop (s .left) B)) = new-nothing l o ∙ sym (new-nothing l (some x)) in
       let all-of : s .left + 0 ≡ s .left = omega arith in
       record {
         stands = record { inside = omega (arith, inside); below = let e = getD-any ds (s .piece) 0 1 inside in omega arith };
@@ -108,8 +108,8 @@ module _ (w : Weighing) (l : Place) (n : ℕ) (ds : List ℕ) (vs : List ℤ) (f
         enough = omega arith;
         worth =
             ap (λ (l' : List Sample). combineFrom (weightingOf w) next (map (placeWorth w l) l')) nothing
-            ∙ stretch-worth (weightingOf w) (placeWorth w l) o (s .worth) x (s .left) 0 B some-left (ahead-take n ds vs (s .piece) (s .used) (s .left) inside (omega (arith, below)) (omega arith))
-            ∙ ap (λ (k : ℕ). combineFrom (weightingOf w) (s .worth) (map (placeWorth w l) (newTo o (take k B)))) all-of;
+            ∙ stretch-worth (weightingOf w) l (placeWorth w l) o (s .worth) x (s .left) 0 B some-left (ahead-take n ds vs (s .piece) (s .used) (s .left) inside (omega (arith, below)) (omega arith))
+            ∙ ap (λ (k : ℕ). combineFrom (weightingOf w) (s .worth) (map (placeWorth w l) (newTo l o (take k B)))) all-of;
         size = omega (arith, next-size);
       }
 
@@ -138,8 +138,8 @@ module _ (w : Weighing) (l : Place) (n : ℕ) (ds : List ℕ) (vs : List ℤ) (f
         enough = let e = h .enough in omega arith;
         worth =
             rw (lt-ltb first (i + 1) on, back, ← there)
-            (stretch-worth (weightingOf w) (placeWorth w l) o (s .worth) x m k B (omega (arith, below)) (ahead-take n ds vs i (s .used) m inside (omega (arith, below)) (omega arith))
-            ∙ ap (λ (j : ℕ). combineFrom (weightingOf w) (s .worth) (map (placeWorth w l) (newTo o (take j B)))) all-of);
+            (stretch-worth (weightingOf w) l (placeWorth w l) o (s .worth) x m k B (omega (arith, below)) (ahead-take n ds vs i (s .used) m inside (omega (arith, below)) (omega arith))
+            ∙ ap (λ (j : ℕ). combineFrom (weightingOf w) (s .worth) (map (placeWorth w l) (newTo l o (take j B)))) all-of);
         size = omega (arith, next-size, below);
       }
 
@@ -191,7 +191,7 @@ module _ (w : Weighing) (l : Place) (n : ℕ) (ds : List ℕ) (vs : List ℤ) (f
   unfolding toCome seenAt newTo combineFrom
   far-all r e f z =
       let o = seenAt n vs first (r .piece) in
-      let nothing : newTo o (take (r .left) (ahead n ds vs (r .piece) (r .used))) ≡ [] = rw z (new-nothing o) in
+      let nothing : newTo l o (take (r .left) (ahead n ds vs (r .piece) (r .used))) ≡ [] = rw z (new-nothing l o) in
       record {
         stands = f .walks .stands;
         rest = rw z at (f .rest);

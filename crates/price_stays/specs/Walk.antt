@@ -17,7 +17,7 @@ use Rattle.pattern.specs.Slots.{all}
 use Rattle.pattern.specs.Distance.{Sample, placeWorth}
 use Rattle.price_stays.specs.declared.Walk.{Walk}
 use Rattle.record.specs.Record.{Book, ticksOf, piecesOf, sampleAt, valueInRange, recordSound}
-use Rattle.record.specs.Joined.{sameSample, joined, freshAfter}
+use Rattle.record.specs.Joined.{agrees, joined, freshAfter}
 
 -- ---- where it stands
 
@@ -32,24 +32,24 @@ pub record Stands (durations : List ℕ) (piece used : ℕ) : Type 0 where
 
 -- ---- what it observes, from left to right
 
--- What ticks bring that is new after an observation, if there was one.
-unfoldable pub newTo : Option Sample → Book → List Sample
-newTo none b = joined b
-newTo (some p) b = freshAfter p b
+-- What ticks bring that is new in a place after a tick of the stay, if there was one.
+unfoldable pub newTo : Place → Option Sample → Book → List Sample
+newTo l none b = joined (agrees l) b
+newTo l (some last) b = freshAfter (agrees l) last b
 
--- Is x one with the observation before it?
-unfoldable pub joinsTo : Option Sample → Sample → Bool
-joinsTo none x = false
-joinsTo (some p) x = sameSample p x
+-- Does x belong to the observation of the tick before it?
+unfoldable pub joinsTo : Place → Option Sample → Sample → Bool
+joinsTo l none x = false
+joinsTo l (some last) x = agrees l last x
 
--- What a stay that began in the piece `first` observed last when it comes to a piece.
+-- The values before a piece, in a stay that began in the piece `first`.
 unfoldable pub seenAt : (channels : ℕ) → (values : List ℤ) → (first piece : ℕ) → Option Sample
 seenAt n vs first i = cond (ltb first i) (some (sampleAt n vs (i - 1))) none
 
--- The worth once a piece is observed too, unless it is one with what was observed last.
+-- The worth once a piece is observed too: as it was where the piece belongs to the observation before it.
 abbrev pub withPiece : Weighing → Place → (channels : ℕ) → (values : List ℤ) → (first piece : ℕ) → (worth : ℤ) → ℤ
 withPiece w l n vs first i a =
-    cond (joinsTo (seenAt n vs first i) (sampleAt n vs i)) a (weightingOf w .combine a (placeWorth w l (sampleAt n vs i)))
+    cond (joinsTo l (seenAt n vs first i) (sampleAt n vs i)) a (weightingOf w .combine a (placeWorth w l (sampleAt n vs i)))
 
 -- ---- what functions ask and promise
 
@@ -72,7 +72,7 @@ pub record Walks (w : Weighing) (l : Place) (channels : ℕ) (durations : List �
 unfoldable pub toCome : Weighing → Place → (channels : ℕ) → (durations : List ℕ) → (values : List ℤ) → (first : ℕ) → Walk → ℤ
 toCome w l n ds vs first s =
     combineFrom (weightingOf w) (s .worth)
-    (map (placeWorth w l) (newTo (seenAt n vs first (s .piece)) (take (s .left) (ahead n ds vs (s .piece) (s .used)))))
+    (map (placeWorth w l) (newTo l (seenAt n vs first (s .piece)) (take (s .left) (ahead n ds vs (s .piece) (s .used)))))
 
 -- From s to r: less of the stay is left, and its worth at its end is the same.
 pub record Turned (w : Weighing) (l : Place) (channels : ℕ) (durations : List ℕ) (values : List ℤ) (first : ℕ) (s r : Walk) : Type 0 where
@@ -94,5 +94,5 @@ pub record Stayed (w : Weighing) (l : Place) (channels : ℕ) (durations : List 
   pub worth :
       r .worth
       ≡ combineFrom (weightingOf w) (s .worth)
-      (map (placeWorth w l) (joined (take (s .left) (ahead channels durations values (s .piece) (s .used)))))
+      (map (placeWorth w l) (joined (agrees l) (take (s .left) (ahead channels durations values (s .piece) (s .used)))))
   pub size : natAbs (r .worth) ≤ natAbs (s .worth) + 8_000_000 * s .left

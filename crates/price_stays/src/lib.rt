@@ -2,7 +2,7 @@
 use pattern::Place;
 use pattern::distance::place_worth;
 use record::rules::least;
-use record::samples::same_sample;
+use record::samples::agree_in;
 use weighting::Weighing;
 use weighting::combine;
 ghost use mathlib.Core.Path.{_≡_};
@@ -19,17 +19,17 @@ pub struct Walk {
     pub worth: i64,
 }
 
-// Whether the piece is one with the piece before it, in a stay that began in the first.
-fn joins(channels: usize, values: &[i32], first: usize, piece: usize) -> bool
+// Whether the piece is one with the piece before it in the place, in a stay that began in the first.
+fn joins(l: Place, channels: usize, values: &[i32], first: usize, piece: usize) -> bool
     requires { ⌜ piece * channels + channels ≤ length (now values) ⌝ }
-    ensures { λ r. ⌜ r ≡ joinsTo (seenAt channels (now (values .entry)) first piece)
+    ensures { λ r. ⌜ r ≡ joinsTo l (seenAt channels (now (values .entry)) first piece)
         (sampleAt channels (now (values .entry)) piece) ⌝ }
 {
     if first < piece {
         let before = (piece - 1) * channels;
         let at = piece * channels;
         let past = at + channels;
-        same_sample(&values[before..at], &values[at..past])
+        agree_in(l, &values[before..at], &values[at..past])
     } else {
         false
     }
@@ -48,7 +48,7 @@ fn observe(
     requires { ⌜ Observes w l channels (now values) piece worth ⌝ }
     ensures { λ r. ⌜ r ≡ withPiece w l channels (now (values .entry)) first piece worth ⌝ }
 {
-    if joins(channels, values, first, piece) {
+    if joins(l, channels, values, first, piece) {
         worth
     } else {
         let at = piece * channels;
@@ -57,7 +57,7 @@ fn observe(
     }
 }
 
-// The stay goes on through one piece: to its end, or to the stay's. So a piece is observed once, however long it is.
+// The stay goes on through one piece: to its end, or to the stay's. So a piece counts once at the most, however long it is.
 fn through(
     w: Weighing,
     l: Place,

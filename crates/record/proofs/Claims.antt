@@ -5,20 +5,18 @@ use mathlib.Core.List.{List, [], _∷_, _++_, map, flatMap, append-assoc, List·
 use mathlib.Core.Logic.{⊎-elim}
 use native.Mathlib.Omega.{arith}
 use mathlib.Core.Option.{some}
-use mathlib.Core.Bool.{Bool, true, false, cond}
+use mathlib.Core.Bool.{Bool, true, false}
 use borrow.Author.Tests.{le-leb, leb-true}
 use lib.Dec.{T, leb}
 use lib.ListN.{length, take, drop, replicate, replicate-append-replicate}
 use lib.IntN.{ℤ}
 use Rattle.integers.specs.Least.{minZ}
 use Rattle.integers.proofs.Tests.{is-false}
-use Rattle.integers.proofs.Least.{min-assoc, min-self}
 use Rattle.weighting.specs.declared.Weighing.{Weighing}
 use Rattle.weighting.specs.declared.Weighing.the-variants.{Margin}
 use Rattle.weighting.specs.Weighting.{combineFrom, combineAll}
 use Rattle.weighting.specs.Weightings.{margin, weightingOf}
 use Rattle.weighting.proofs.Worths.{combineFrom-append, combineFrom-snoc, combineFrom-all}
-use Rattle.pattern.specs.declared.Place.{Place}
 use Rattle.pattern.specs.declared.Pattern.{Pattern}
 use Rattle.pattern.specs.Slots.{all}
 use Rattle.pattern.specs.Kinds.{isStart, isEnd}
@@ -27,12 +25,12 @@ use Rattle.pattern.specs.InUse.{guardsOf, placeAt, edgeAt}
 use Rattle.pattern.specs.Distance.{Sample, distancesOf, placeWorth}
 use Rattle.pattern.proofs.SoundLaws.{both}
 use Rattle.record.specs.Record.{Piece, Book, ticksOf}
-use Rattle.record.specs.Joined.{sameSample, absorb, joined, observed}
+use Rattle.record.specs.Joined.{agrees, observed}
 use Rattle.record.specs.Run.{Step, canStep, clocksAfter, goes, isRun, endOf, lengthOf}
 use Rattle.record.specs.Worth.{stayWorth, stayWorths, runWorth, priceOf}
-use Rattle.record.specs.Claims.{CutsDoNotMatter, ObservedInOrder, MarginCountsTicks, distancesIn, MarginIsLeastDistance, SameRuns, OnlyPlacesLeftSpeak, EndPlaceIsSilent, ZeroGuardNeverHolds, LengthIsStays, NeverARun}
+use Rattle.record.specs.Claims.{CutsDoNotMatter, ObservedInOrder, MarginCountsTicks, AgreeingWorths, distancesIn, MarginIsLeastDistance, SameRuns, OnlyPlacesLeftSpeak, EndPlaceIsSilent, ZeroGuardNeverHolds, LengthIsStays, NeverARun}
 use Rattle.record.proofs.StepLaws.{later-is, can-parts}
-use Rattle.record.proofs.JoinedLaws.{same-true, joined-fresh}
+use Rattle.record.proofs.JoinedLaws.{joined-fresh, margin-joined, agree-worth}
 use Rattle.record.proofs.PlaceLaws.{stays-worth-all}
 use Rattle.record.proofs.PriceLaws.{priced-parts}
 
@@ -49,36 +47,18 @@ cut-ticks (x ∷ before) after m n s = ap (_++_ (replicate (x .duration) (x .sam
 pub cuts-do-not-matter : CutsDoNotMatter
 cuts-do-not-matter p before after m n s begin xs = ap (λ (b : Book). priceOf p b begin xs) (cut-ticks before after m n s)
 
--- ---- tick by tick
+-- ---- joining
 
 pub observed-in-order : ObservedInOrder
-observed-in-order x b = joined-fresh x b
+observed-in-order A same x b = joined-fresh same x b
 
--- ---- margin
-
-module _ (l : Place) where
-  absorbed : (a : ℤ) (x : Sample) (ys : List Sample)
-      → combineFrom margin a (map (placeWorth Margin l) (absorb x ys)) ≡ combineFrom margin (minZ a (placeWorth Margin l x)) (map (placeWorth Margin l) ys)
-  unfolding absorb combineFrom
-  absorbed a x [] = refl
-  absorbed a x (y ∷ ys) = by (sameSample x y) refl
-    where
-      f : Sample → ℤ
-      f = placeWorth Margin l
-
-      by : (t : Bool) → sameSample x y ≡ t → combineFrom margin a (map (placeWorth Margin l) (cond t (y ∷ ys) (x ∷ y ∷ ys))) ≡ combineFrom margin (minZ (minZ a (placeWorth Margin l x)) (placeWorth Margin l y)) (map (placeWorth Margin l) ys)
-      by true e =
-          let s = same-true x y e in
-          rw (min-assoc a (placeWorth Margin l x) (placeWorth Margin l y), s, min-self (placeWorth Margin l y))
-      by false e = refl
-
-  pub margin-from : (a : ℤ) (b : Book) → combineFrom margin a (map (placeWorth Margin l) (joined b)) ≡ combineFrom margin a (map (placeWorth Margin l) b)
-  unfolding joined combineFrom
-  margin-from a [] = refl
-  margin-from a (x ∷ b) = absorbed a x (joined b) ∙ margin-from (minZ a (placeWorth Margin l x)) b
+pub agreeing-worths : AgreeingWorths
+agreeing-worths w l x y e = agree-worth w l x y e
 
 pub margin-counts-ticks : MarginCountsTicks
-margin-counts-ticks l b = margin-from l (margin .unit) b
+margin-counts-ticks A same f alike b = margin-joined same f alike (margin .unit) b
+
+-- ---- margin
 
 -- lists of worths combined one by one, or laid end to end
 flat-from : {A : Type 0} (f : A → List ℤ) (a : ℤ) (l : List A) → T (margin .worth a)
@@ -95,7 +75,7 @@ module _ (p : Pattern) (is : p .weighing ≡ Margin) where
   stay-least : (b : Book) (k t n : ℕ) → stayWorth p b k t n ≡ combineAll margin (flatMap (distancesOf (placeAt p k)) (take n (drop t b)))
   unfolding stayWorth observed placeWorth
   stay-least b k t n =
-      rw is (margin-counts-ticks (placeAt p k) (take n (drop t b)) ∙ flat-from (distancesOf (placeAt p k)) (margin .unit) (take n (drop t b)) (margin .unit-worth))
+      rw is (margin-counts-ticks Sample (agrees (placeAt p k)) (placeWorth Margin (placeAt p k)) (agree-worth Margin (placeAt p k)) (take n (drop t b)) ∙ flat-from (distancesOf (placeAt p k)) (margin .unit) (take n (drop t b)) (margin .unit-worth))
 
   stays-least : (b : Book) (t : ℕ) (xs : List Step) (a : ℤ) → T (margin .worth a)
       → combineFrom margin a (stayWorths p b t xs) ≡ combineFrom margin a (distancesIn p b t xs)

@@ -1,16 +1,16 @@
 -- A place's worth of a sample: always a worth; in a sound pattern, of values in range, at most 8,000,000 in size, and in
--- margin at most 2,000,001.
-use Prim.Native.Nat.{ℕ, zero, suc, _≤_, _<_}
+-- margin at most 2,000,001; the unit where the place has no tests, as all places past the last.
+use Prim.Native.Nat.{ℕ, zero, suc, _+_, _-_, _≤_, _<_}
 use native.Mathlib.Nat.{mul-le-mul-right}
 use native.Mathlib.Omega.{arith}
-use mathlib.Core.Path.{_≡_, sym, ap, subst, _∙_}
+use mathlib.Core.Path.{_≡_, refl, sym, ap, subst, _∙_}
 use mathlib.Core.List.{List, [], _∷_, map, List·Memᴰ·cases-cons, List·Memᴰ·not-nil}
-use mathlib.Core.Bool.{true}
+use mathlib.Core.Bool.{Bool, true, false, _&&_}
 use mathlib.Core.Logic.{⊎-elim}
-use borrow.Author.Tests.{leb-true}
-use lib.Dec.{T}
-use lib.ListN.{length, take, length-map, length-take}
-use lib.Seq.{getD-take, length-take-le}
+use borrow.Author.Tests.{leb-true, ltb-true, ltb-false, eqb-true}
+use lib.Dec.{T, eqb, ltb}
+use lib.ListN.{length, take, drop, length-map, length-take, length-drop, List·getD-eq-default}
+use lib.Seq.{getD-take, getD-drop, length-take-le}
 use lib.IntN.{ℤ, pos, natAbs}
 use Rattle.integers.specs.Least.{minZ}
 use Rattle.integers.proofs.Order.{le-through}
@@ -23,8 +23,8 @@ use Rattle.weighting.proofs.Sizes.{Within, combineFrom-size, margin-size}
 use Rattle.pattern.specs.declared.Test.{Test}
 use Rattle.pattern.specs.declared.Place.{Place}
 use Rattle.pattern.specs.declared.Pattern.{Pattern}
-use Rattle.pattern.specs.Slots.{all}
-use Rattle.pattern.specs.Sound.{noPlace, testInRange, testSound, placeSound, soundOf}
+use Rattle.pattern.specs.Slots.{all, slots}
+use Rattle.pattern.specs.Sound.{noPlace, isPlain, testInRange, testUnused, testSound, placeUnused, placeSound, soundOf}
 use Rattle.pattern.specs.InUse.{testsOf, placeAt}
 use Rattle.pattern.specs.Distance.{Sample, readingOf, distanceIn, distancesOf, placeWorth}
 use Rattle.pattern.proofs.Claims.{distances-in-range}
@@ -98,3 +98,33 @@ place-at-sound p k h less =
     let long : length (take (p .placecount) (p .places)) ≡ p .placecount = length-take-le (p .placecount) (p .places) (omega arith) in
     ap (placeSound (p .channels)) (sym (getD-take (p .placecount) (p .places) k noPlace less))
     ∙ all-at (placeSound (p .channels)) (take (p .placecount) (p .places)) k noPlace (s .front) (omega arith)
+
+-- ---- places without tests
+
+pub testless-worth : (w : Weighing) (l : Place) → testsOf l ≡ [] → (x : Sample) → placeWorth w l x ≡ weightingOf w .unit
+unfolding placeWorth distancesOf combineFrom
+testless-worth w l none x = rw none
+
+none-unused : placeUnused noPlace ≡ true
+unfolding placeUnused slots testUnused
+none-unused = refl
+
+-- a place past the last is as an unused one
+pub past-unused : (p : Pattern) → soundOf p ≡ true → (k : ℕ) → p .placecount ≤ k → placeUnused (placeAt p k) ≡ true
+past-unused p sound k h = by (ltb k (length (p .places))) refl
+  where
+    by : (t : Bool) → ltb k (length (p .places)) ≡ t → placeUnused (placeAt p k) ≡ true
+    by true e =
+        let i : p .placecount + (k - p .placecount) ≡ k = omega arith in
+        let l = length-drop (p .placecount) (p .places) in
+        let b = ltb-true k (length (p .places)) e in
+        ap placeUnused (sym (getD-drop (p .placecount) (p .places) (k - p .placecount) noPlace ∙ ap (placeAt p) i))
+        ∙ all-at placeUnused (drop (p .placecount) (p .places)) (k - p .placecount) noPlace (parts p sound .places .rest) (omega arith)
+    by false e = rw (List·getD-eq-default (p .places) noPlace {n = k} (ltb-false _ _ e)) none-unused
+
+pub past-testless : (p : Pattern) → soundOf p ≡ true → (k : ℕ) → p .placecount ≤ k → testsOf (placeAt p k) ≡ []
+unfolding placeUnused
+past-testless p sound k h =
+    let u = both (isPlain (placeAt p k .kind) && eqb (placeAt p k .count) 0) _ (past-unused p sound k h) in
+    let e : placeAt p k .count ≡ 0 = eqb-true _ _ (both (isPlain (placeAt p k .kind)) (eqb (placeAt p k .count) 0) (u .0) .1) in
+    rw e

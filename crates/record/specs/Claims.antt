@@ -4,9 +4,10 @@ use mathlib.Core.Path.{_≡_}
 use mathlib.Core.Logic.{_⊎_}
 use mathlib.Core.List.{List, [], _∷_, _++_, map, flatMap, List·Memᴰ}
 use mathlib.Core.Option.{some}
-use mathlib.Core.Bool.{true, false}
+use mathlib.Core.Bool.{Bool, true, false}
 use lib.ListN.{length, take, drop}
 use lib.IntN.{ℤ}
+use Rattle.weighting.specs.declared.Weighing.{Weighing}
 use Rattle.weighting.specs.declared.Weighing.the-variants.{Margin}
 use Rattle.weighting.specs.Weighting.{combineAll}
 use Rattle.weighting.specs.Weightings.{margin, weightingOf}
@@ -19,7 +20,7 @@ use Rattle.pattern.specs.InUse.{guardsOf, placeAt, edgeAt}
 use Rattle.pattern.specs.Clocks.{Clocks}
 use Rattle.pattern.specs.Distance.{Sample, distancesOf, placeWorth}
 use Rattle.record.specs.Record.{Piece, Book, ticksOf}
-use Rattle.record.specs.Joined.{joined, freshAfter}
+use Rattle.record.specs.Joined.{joined, freshAfter, agrees}
 use Rattle.record.specs.Run.{Step, canStep, isRun, endOf, lengthOf}
 use Rattle.record.specs.Worth.{stayWorth, runWorth, priceOf}
 
@@ -30,14 +31,21 @@ CutsDoNotMatter =
     → priceOf p (ticksOf (before ++ record { duration = m + n; sample = s } ∷ after)) begin xs
     ≡ priceOf p (ticksOf (before ++ record { duration = m; sample = s } ∷ record { duration = n; sample = s } ∷ after)) begin xs
 
--- Joining seen tick by tick: the first sample, and then each that differs from the one before.
-abbrev pub ObservedInOrder : Type 0
-ObservedInOrder = (x : Sample) (b : Book) → joined (x ∷ b) ≡ x ∷ freshAfter x b
+-- Joining seen tick by tick, by any test of neighbours: the first tick, and then each that is not one with the tick before it.
+abbrev pub ObservedInOrder : Type 1
+ObservedInOrder =
+    (A : Type 0) (same : A → A → Bool) (x : A) (b : List A) → joined same (x ∷ b) ≡ x ∷ freshAfter same x b
 
--- In margin, an observation counted once or at every tick comes to the same.
-abbrev pub MarginCountsTicks : Type 0
+-- In margin it makes no difference whether an observation counts once or at each of its ticks: by any test, and any worth of a
+-- tick that is the same for ticks that are one.
+abbrev pub MarginCountsTicks : Type 1
 MarginCountsTicks =
-    (l : Place) (b : Book) → combineAll margin (map (placeWorth Margin l) (joined b)) ≡ combineAll margin (map (placeWorth Margin l) b)
+    (A : Type 0) (same : A → A → Bool) (f : A → ℤ) → ((x y : A) → same x y ≡ true → f x ≡ f y)
+    → (b : List A) → combineAll margin (map f (joined same b)) ≡ combineAll margin (map f b)
+
+-- Samples that agree in a place are worth the same there.
+abbrev pub AgreeingWorths : Type 0
+AgreeingWorths = (w : Weighing) (l : Place) (x y : Sample) → agrees l x y ≡ true → placeWorth w l x ≡ placeWorth w l y
 
 -- Every distance of the steps' stays: of each test of the place that a step leaves, at each tick of its stay.
 unfoldable pub distancesIn : Pattern → Book → (t : ℕ) → List Step → List ℤ

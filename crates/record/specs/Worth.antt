@@ -1,5 +1,5 @@
--- What a stay and a run are worth (document 01, 'Record and run'; source 000, definition 7 and example 8, whose sum has a
--- slip in its index and says the margin where it means the sum; document 01 prevails).
+-- What a stay and a run are worth (document 01, 'Record and run'; in sum by document 02, R-3, which prevails; source 000,
+-- definition 7 and example 8, whose sum has a slip in its index and says the margin where it means the sum).
 use Prim.Native.Nat.{ℕ, _+_}
 use mathlib.Core.List.{List, [], _∷_, map}
 use mathlib.Core.Option.{Option, none, some}
@@ -16,10 +16,10 @@ use Rattle.record.specs.Record.{Book}
 use Rattle.record.specs.Joined.{observed}
 use Rattle.record.specs.Run.{Step, isRun, lengthOf}
 
--- A stay of n ticks in a place from time t: "the least distance over its tests and the pieces it touches" in margin;
--- "adds up the distances of all its tests, once per joined piece it touches" in sum.
+-- A stay of n ticks in a place from time t: in margin the least distance over its tests and what it observes; in sum the
+-- distances of all its tests added up, once for each observation. Without tests that is the unit: 2,000,001 or 0.
 unfoldable pub stayWorth : Pattern → Book → (place t n : ℕ) → ℤ
-stayWorth p b k t n = combineAll (weightingOf (p .weighing)) (map (placeWorth (p .weighing) (placeAt p k)) (observed b t n))
+stayWorth p b k t n = combineAll (weightingOf (p .weighing)) (map (placeWorth (p .weighing) (placeAt p k)) (observed (placeAt p k) b t n))
 
 -- The stays of a run that begins its first at time t. A stay is in the place that its edge leaves, so the place that the
 -- last edge enters has no say.

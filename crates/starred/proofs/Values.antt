@@ -11,7 +11,7 @@ use Rattle.pattern.specs.Distance.{placeWorth, distancesOf}
 use Rattle.pattern_text.specs.Examples as pattern-text
 use Rattle.pattern_read.specs.Reading.{dueTo}
 use Rattle.record.specs.Record.{total, recordSound, bookOf, piecesOf, sampleAt, ticksOf}
-use Rattle.record.specs.Joined.{sameSample, absorb, joined, observed}
+use Rattle.record.specs.Joined.{agrees, absorb, joined, observed}
 use Rattle.record.specs.Run.{canStep, goes, isRun, lengthOf, stepsOf}
 use Rattle.record.specs.Worth.{stayWorth, stayWorths, runWorth, priceOf}
 use Rattle.record_text.specs.Text.{durationsOf, valuesOf}
@@ -28,7 +28,7 @@ accepted : checkNumber 1 exampleText ≡ 0
 accepted = sym (check-numbers 1 exampleText) ∙ ap (λ o. checkedAs (checkedOf o)) record-text.sound
 
 pub starred-hold : Starred
-unfolding durationsOf valuesOf flatMap slots testUnused guardUnused placeUnused edgeUnused boundInRange testInRange testKnown unsaidZero testSound guardInRange guardKnown headerInRange placeSound edgeSound soundOf boundsOn largest ceilingOf clockCells cellsFor cellsNeeded stepsFit recordSound total bookOf piecesOf sampleAt ticksOf sameSample absorb joined observed canStep goes isRun lengthOf stepsOf stayWorth stayWorths runWorth priceOf guardsHold afterResets zipWith combineFrom placeWorth distancesOf
+unfolding durationsOf valuesOf flatMap slots testUnused guardUnused placeUnused edgeUnused boundInRange testInRange testKnown unsaidZero testSound guardInRange guardKnown headerInRange placeSound edgeSound soundOf boundsOn largest ceilingOf clockCells cellsFor cellsNeeded stepsFit recordSound total bookOf piecesOf sampleAt ticksOf agrees absorb joined observed canStep goes isRun lengthOf stepsOf stayWorth stayWorths runWorth priceOf guardsHold afterResets zipWith combineFrom placeWorth distancesOf
 starred-hold = (
   ap dueTo (pattern-text.reads Margin),
   (

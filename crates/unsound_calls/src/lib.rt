@@ -11,14 +11,15 @@ use lent_state::open_through;
 use monitor::State;
 use pattern::Pattern;
 use price::price;
-use record::samples::same_sample;
 use value_vectors::values::with_header;
 use weighting::MARK;
 
 fn same_state(s: State, t: State) -> bool {
     let a = s.last;
     let b = t.last;
-    (s.ticks == t.ticks) & same_sample(&a, &b)
+    let low = (a[0] == b[0]) & (a[1] == b[1]) & (a[2] == b[2]) & (a[3] == b[3]);
+    let high = (a[4] == b[4]) & (a[5] == b[5]) & (a[6] == b[6]) & (a[7] == b[7]);
+    (s.ticks == t.ticks) & low & high
 }
 
 // A table, or scores, of two places.

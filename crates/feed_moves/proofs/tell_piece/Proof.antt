@@ -56,7 +56,7 @@ tell-all-requires c κs =
     let scores = s .pre .5 in
     let lengths = s .pre .6 in (
       rw (s .pre .1, c .before .before .before .before .before .before .before .before .before .before .before .before .view-in .ensures, c .before .before .before .before .before .before .before .before .before .before .before .view-in2 .ensures, c .before .before .before .before .before .before .before .before .before .kind-flags .ensures, c .before .before .before .before .before .before .before .before .kind-flags2 .ensures)
-          (telling (a .p) sound (a .values .now) fine (a .new) (a .first .now) long whole _ _ _ (omega arith) (omega arith)),
+          (telling (a .p) sound (a .values .now) fine (a .last .now) (a .first .now) long whole _ _ _ (omega arith) (omega arith)),
       rw (s .pre .1) (s .pre .7),
     )
 
@@ -105,15 +105,15 @@ returns c =
     let u = c .before .before .before .before .before .before .before .before .before .before .before .before .before .before .before .before .before .before .before .before .before .before .before .before .view-in2 .ensures in
     let starts = c .before .before .before .before .before .before .before .before .before .before .before .before .before .before .before .before .before .before .before .before .before .before .kind-flags .ensures in
     let ends = c .before .before .before .before .before .before .before .before .before .before .before .before .before .before .before .before .before .before .before .before .before .kind-flags2 .ensures in (
-      o .0 ∙ rw (l, v, u, starts, ends) (written-to (a .p) sound (a .values .now) fine (a .new) (a .first .now) long whole m) ∙ table-still (a .p) sound (a .values .now) (a .new) (a .first .now) d m is,
+      o .0 ∙ rw (l, v, u, starts, ends) (written-to (a .p) sound (a .values .now) fine (a .last .now) (a .first .now) long whole m) ∙ table-still (a .p) sound (a .last .now) (a .values .now) (a .first .now) d m is,
       (
         r .0
-            ∙ ap (λ (x : List ℤ). repeated x m (d - m) (getD x (m - 1) (pos 0))) (o .1 .0 ∙ rw (l, v, u, starts, ends) (scores-told (a .p) sound (a .values .now) fine (a .new) (a .first .now) long whole (a .scores .now) m))
-            ∙ reports-still (a .p) sound (a .values .now) (a .new) (a .first .now) d m is scoreIn (a .scores .now) (pos 0) (s .pre .5),
+            ∙ ap (λ (x : List ℤ). repeated x m (d - m) (getD x (m - 1) (pos 0))) (o .1 .0 ∙ rw (l, v, u, starts, ends) (scores-told (a .p) sound (a .values .now) fine (a .last .now) (a .first .now) long whole (a .scores .now) m))
+            ∙ reports-still (a .p) sound (a .last .now) (a .values .now) (a .first .now) d m is scoreIn (a .scores .now) (pos 0) (s .pre .5),
         (
           r .1
-              ∙ ap (λ (x : List ℕ). repeated x m (d - m) (getD x (m - 1) 0)) (o .1 .1 .0 ∙ rw (l, v, u, starts, ends) (lengths-told (a .p) sound (a .values .now) fine (a .new) (a .first .now) long whole (a .lengths .now) m))
-              ∙ reports-still (a .p) sound (a .values .now) (a .new) (a .first .now) d m is lengthIn (a .lengths .now) 0 (s .pre .6),
+              ∙ ap (λ (x : List ℕ). repeated x m (d - m) (getD x (m - 1) 0)) (o .1 .1 .0 ∙ rw (l, v, u, starts, ends) (lengths-told (a .p) sound (a .values .now) fine (a .last .now) (a .first .now) long whole (a .lengths .now) m))
+              ∙ reports-still (a .p) sound (a .last .now) (a .values .now) (a .first .now) d m is lengthIn (a .lengths .now) 0 (s .pre .6),
           rw (← l) (o .1 .1 .1),
         ),
       ),

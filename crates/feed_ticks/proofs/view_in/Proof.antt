@@ -1,5 +1,5 @@
 use native.Mathlib.Omega.{arith}
-use mathlib.Core.Path.{_≡_, refl, ap, _∙_}
+use mathlib.Core.Path.{_≡_, refl, _∙_}
 use Prim.Native.Nat.{_≤_, _-_}
 use mathlib.Core.Bool.{Bool, true, false}
 use mir.Syntax.{w64}
@@ -19,10 +19,10 @@ abbrev zeros : List ℤ
 zeros = replicate 16 (pos 0)
 
 abbrev Inv-loop : tie.InvT-loop
-Inv-loop values new p w entered₀ staying₀ i₀ entered staying i = (i ≤ 16) × ((entered ≡ paste zeros 0 (gainsOf p values new true) i) × (staying ≡ paste zeros 0 (gainsOf p values new false) i))
+Inv-loop last values p w entered₀ staying₀ i₀ entered staying i = (i ≤ 16) × ((entered ≡ paste zeros 0 (gainsOf p last values true) i) × (staying ≡ paste zeros 0 (gainsOf p last values false) i))
 
 abbrev μ-loop : tie.MeasureT-loop
-μ-loop values new p w entered₀ staying₀ i₀ entered staying i = 16 - i
+μ-loop last values p w entered₀ staying₀ i₀ entered staying i = 16 - i
 
 -- an array has as many elements as its type says
 sixteen : (c : tie.Start Inv-loop μ-loop) → length (c .args .t1 .places) ≡ 16
@@ -31,7 +31,7 @@ sixteen c = simp length-map at (c .good .0 .1 .1 .1 .1 .1 .1 .1 .1 .0 .1 .0 .1)
 loop-holds : tie.Need-loop-holds Inv-loop μ-loop
 loop-holds c =
     let a = c .args in
-    (omega arith, (paste-zero zeros 0 (gainsOf (a .t1) (a .values .now) (a .new) true), paste-zero zeros 0 (gainsOf (a .t1) (a .values .now) (a .new) false)))
+    (omega arith, (paste-zero zeros 0 (gainsOf (a .t1) (a .last .now) (a .values .now) true), paste-zero zeros 0 (gainsOf (a .t1) (a .last .now) (a .values .now) false)))
 
 mul-l : tie.Need-mul-l Inv-loop μ-loop
 mul-l c = omega arith
@@ -72,8 +72,8 @@ loop-again c =
     let h : toZ w64 (ofZ w64 (c .gain2 .result)) ≡ c .gain2 .result = toZ-ofZ (record { sfits = c .gain2 .ok }) in (
       omega arith,
       (
-        rw (l .inv .1 .0, g, c .before .gain .ensures) (mapped-more (λ x. gainIn (a .t1 .weighing) x (a .values .now) (a .new) true) zeros (a .t1 .places) (l .i) _ (omega arith) (omega arith)),
-        rw (l .inv .1 .1, h, c .gain2 .ensures) (mapped-more (λ x. gainIn (a .t1 .weighing) x (a .values .now) (a .new) false) zeros (a .t1 .places) (l .i) _ (omega arith) (omega arith)),
+        rw (l .inv .1 .0, g, c .before .gain .ensures) (mapped-more (λ x. gainIn (a .t1 .weighing) x (a .last .now) (a .values .now) true) zeros (a .t1 .places) (l .i) _ (omega arith) (omega arith)),
+        rw (l .inv .1 .1, h, c .gain2 .ensures) (mapped-more (λ x. gainIn (a .t1 .weighing) x (a .last .now) (a .values .now) false) zeros (a .t1 .places) (l .i) _ (omega arith) (omega arith)),
       ),
     )
 
@@ -82,10 +82,10 @@ returns c =
     let l = c .before .loop in
     let a = c .before .before .args in
     let i-is : l .i ≡ 16 = omega arith in
-    let all-made : (f : Bool) → paste zeros 0 (gainsOf (a .t1) (a .values .now) (a .new) f) (l .i) ≡ gainsOf (a .t1) (a .values .now) (a .new) f =
-    λ f. rw i-is (mapped-all (λ x. gainIn (a .t1 .weighing) x (a .values .now) (a .new) f) zeros (a .t1 .places) 16 refl (sixteen (c .before .before))) in
-    let e : l .entered ≡ gainsOf (a .t1) (a .values .now) (a .new) true = l .inv .1 .0 ∙ all-made true in
-    let s : l .staying ≡ gainsOf (a .t1) (a .values .now) (a .new) false = l .inv .1 .1 ∙ all-made false in
+    let all-made : (f : Bool) → paste zeros 0 (gainsOf (a .t1) (a .last .now) (a .values .now) f) (l .i) ≡ gainsOf (a .t1) (a .last .now) (a .values .now) f =
+    λ f. rw i-is (mapped-all (λ x. gainIn (a .t1 .weighing) x (a .last .now) (a .values .now) f) zeros (a .t1 .places) 16 refl (sixteen (c .before .before))) in
+    let e : l .entered ≡ gainsOf (a .t1) (a .last .now) (a .values .now) true = l .inv .1 .0 ∙ all-made true in
+    let s : l .staying ≡ gainsOf (a .t1) (a .last .now) (a .values .now) false = l .inv .1 .1 ∙ all-made false in
     λ z. record { entered = e z; staying = s z }
 
 pub view-in-spec : {M : Type 1} → statement M

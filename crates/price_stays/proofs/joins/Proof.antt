@@ -23,32 +23,32 @@ mul-at c = search needs
 add-past : tie.Need-add-past
 add-past c = search needs
 
-mul-same-sample : tie.Need-mul-same-sample
-mul-same-sample c = let a = c .before .args in omega (arith, one-before (a .piece) (a .channels) (omega arith))
+mul-agree-in : tie.Need-mul-agree-in
+mul-agree-in c = let a = c .before .args in omega (arith, one-before (a .piece) (a .channels) (omega arith))
 
-sub-same-sample : tie.Need-sub-same-sample
-sub-same-sample c = let a = c .before .args in omega (arith, one-before (a .piece) (a .channels) (omega arith))
+sub-agree-in : tie.Need-sub-agree-in
+sub-agree-in c = let a = c .before .args in omega (arith, one-before (a .piece) (a .channels) (omega arith))
 
-part-same-sample-start : tie.Need-part-same-sample-start
-part-same-sample-start c = let a = c .before .args in omega (arith, one-before (a .piece) (a .channels) (omega arith))
+part-agree-in-start : tie.Need-part-agree-in-start
+part-agree-in-start c = let a = c .before .args in omega (arith, one-before (a .piece) (a .channels) (omega arith))
 
-part-same-sample-end : tie.Need-part-same-sample-end
-part-same-sample-end c = search needs
+part-agree-in-end : tie.Need-part-agree-in-end
+part-agree-in-end c = search needs
 
-mul-same-sample-2 : tie.Need-mul-same-sample-2
-mul-same-sample-2 c = search needs
+mul-agree-in-2 : tie.Need-mul-agree-in-2
+mul-agree-in-2 c = search needs
 
-sub-same-sample-2 : tie.Need-sub-same-sample-2
-sub-same-sample-2 c = search needs
+sub-agree-in-2 : tie.Need-sub-agree-in-2
+sub-agree-in-2 c = search needs
 
-part-same-sample-start-2 : tie.Need-part-same-sample-start-2
-part-same-sample-start-2 c = search needs
+part-agree-in-start-2 : tie.Need-part-agree-in-start-2
+part-agree-in-start-2 c = search needs
 
-part-same-sample-end-2 : tie.Need-part-same-sample-end-2
-part-same-sample-end-2 c = search needs
+part-agree-in-end-2 : tie.Need-part-agree-in-end-2
+part-agree-in-end-2 c = search needs
 
-same-sample-requires : tie.Need-same-sample-requires
-same-sample-requires c κs = search needs
+agree-in-requires : tie.Need-agree-in-requires
+agree-in-requires c κs = search needs
 
 returns : tie.Need-returns
 unfolding joinsTo seenAt sampleAt
@@ -56,7 +56,7 @@ returns c = let a = c .before .before .before .before .args in
     let t = c .before .before .before .if1 .taken in
     let before-is : a .piece * a .channels - (a .piece - 1) * a .channels ≡ a .channels = omega (arith, one-before (a .piece) (a .channels) (omega arith)) in
     let at-is : a .piece * a .channels + a .channels - a .piece * a .channels ≡ a .channels = omega arith in
-    c .same-sample .ensures ∙ rw (before-is, at-is, lt-ltb _ _ t)
+    c .agree-in .ensures ∙ rw (before-is, at-is, lt-ltb _ _ t)
 
 returns-2 : tie.Need-returns-2
 unfolding joinsTo seenAt
@@ -70,14 +70,14 @@ joins-spec =
     mul-before
     mul-at
     add-past
-    mul-same-sample
-    sub-same-sample
-    part-same-sample-start
-    part-same-sample-end
-    mul-same-sample-2
-    sub-same-sample-2
-    part-same-sample-start-2
-    part-same-sample-end-2
-    same-sample-requires
+    mul-agree-in
+    sub-agree-in
+    part-agree-in-start
+    part-agree-in-end
+    mul-agree-in-2
+    sub-agree-in-2
+    part-agree-in-start-2
+    part-agree-in-end-2
+    agree-in-requires
     returns
     returns-2)
