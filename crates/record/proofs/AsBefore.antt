@@ -1,7 +1,7 @@
 -- The claims of specs/AsBefore.
 use Prim.Native.Nat.{ℕ, _+_}
 use native.Mathlib.Omega.{arith}
-use mathlib.Core.Path.{_≡_, refl, sym, ap, subst, _∙_}
+use mathlib.Core.Path.{_≡_, refl, sym, ap, ap₂, subst, _∙_}
 use mathlib.Core.List.{List, [], _∷_, map}
 use mathlib.Core.Bool.{Bool, true, false, _&&_, and-true}
 use borrow.Author.Tests.{ltb-true, ltb-false, eqb-true}
@@ -57,7 +57,7 @@ module _ (p : Pattern) (b : Book) (alike : (k t n : ℕ) → stayWorth p b k t n
   stays-alike : (t : ℕ) (xs : List Step) → stayWorths p b t xs ≡ wholeStays p b t xs
   unfolding stayWorths wholeStays
   stays-alike t [] = refl
-  stays-alike t (x ∷ xs) = rw (alike (edgeAt p (x .edge) .from) t (x .stay), stays-alike (t + x .stay) xs)
+  stays-alike t (x ∷ xs) = ap₂ _∷_ (alike (edgeAt p (x .edge) .from) t (x .stay)) (stays-alike (t + x .stay) xs)
 
   prices-alike : (begin : ℕ) (xs : List Step) → priceOf p b begin xs ≡ wholePrice p b begin xs
   unfolding priceOf runWorth

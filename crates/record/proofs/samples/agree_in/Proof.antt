@@ -1,6 +1,7 @@
 -- `agree_in` looks at each test: the agreement in those passed.
 use native.Mathlib.Omega.{arith}
-use mathlib.Core.Path.{_≡_, refl, sym, _∙_}
+use mathlib.Core.Path.{_≡_, refl, sym, ap, ap₂, _∙_}
+use mathlib.Core.Bool.{_&&_}
 use Prim.Native.Nat.{_≤_, _-_, min}
 use lib.ListN.{length, length-map, take, getD}
 use Rattle.pattern.specs.Sound.{noTest}
@@ -47,8 +48,12 @@ loop-again c =
     let l = c .before .before .before .loop in
     let g = c .before .before .before .before .before .args in
     let n = c .before .before .before .before .in-use .ensures in
-    let e = four (c .before .before .before .before .before) in
-    (omega arith, rw (l .inv .1, c .agree-on .ensures, take-more (l .i) (g .t1 .tests) noTest (omega arith)) (sym (all-snoc (agreeOn (g .a .now) (g .b .now)) (take (l .i) (g .t1 .tests)) (getD (g .t1 .tests) (l .i) noTest))))
+    let e = four (c .before .before .before .before .before) in (
+      omega arith,
+      ap₂ _&&_ (l .inv .1) (c .agree-on .ensures)
+          ∙ sym (all-snoc (agreeOn (g .a .now) (g .b .now)) (take (l .i) (g .t1 .tests)) (getD (g .t1 .tests) (l .i) noTest))
+          ∙ ap (all (agreeOn (g .a .now) (g .b .now))) (sym (take-more (l .i) (g .t1 .tests) noTest (omega arith))),
+    )
 
 returns : tie.Need-returns Inv-loop μ-loop
 unfolding agrees
