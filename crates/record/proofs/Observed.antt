@@ -22,11 +22,11 @@ use Rattle.pattern.specs.Distance.{Sample, readingOf, placeWorth}
 use Rattle.pattern.proofs.SoundLaws.{both}
 use Rattle.pattern.proofs.ListLaws.{take-more}
 use Rattle.record.specs.Record.{Book}
-use Rattle.record.specs.Joined.{joined, freshAfter, agreeOn, agrees, observed}
+use Rattle.record.specs.Joined.{absorb, joined, freshAfter, agreeOn, agrees, observed}
 use Rattle.record.specs.Worth.{stayWorth}
-use Rattle.record.specs.Observed.{OneTickMore, AgreesWhereTested, TwitchAddsNothing, OnlyTestedSpeak, NoTestsAddNothing}
+use Rattle.record.specs.Observed.{OneTick, OneTickMore, AgreesWhereTested, TwitchAddsNothing, OnlyTestedSpeak, NoTestsAddNothing}
 use Rattle.record.proofs.JoinedLaws.{joined-fresh, agree-worth, agrees-alike}
-use Rattle.record.proofs.PlaceLaws.{testless-worth}
+use Rattle.record.proofs.PlaceLaws.{place-is-worth, testless-worth}
 
 no : _≡_ {A = Bool} false true → ⊥
 no e = let z : _≡_ {A = ℕ} 0 1 = cc in omega arith
@@ -72,6 +72,15 @@ ticks-last : (b : Book) (t n : ℕ) → t + n < length b → take (n + 1) (drop 
 ticks-last b t n h =
     take-more n (drop t b) [] (let l = length-drop t b in omega arith)
     ∙ ap (λ (x : Sample). take n (drop t b) ++ x ∷ []) (getD-drop t b n [])
+
+pub one-tick : OneTick
+unfolding stayWorth observed joined absorb combineFrom
+one-tick p b k t inside =
+    let w = p .weighing in
+    let l = placeAt p k in
+    let none-before : t + 0 ≡ t = omega arith in
+    let one : take 1 (drop t b) ≡ getD b t [] ∷ [] = ticks-last b t 0 (omega arith) ∙ ap (λ (m : ℕ). getD b m [] ∷ []) none-before in
+    rw one (weightingOf w .unit-left (placeWorth w l (getD b t [])) (place-is-worth w l (getD b t [])))
 
 -- observations, with one tick more
 observed-last : (w : Weighing) (l : Place) (front : Book) (x y : Sample)

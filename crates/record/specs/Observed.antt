@@ -1,5 +1,5 @@
--- What is proved of a stay's observations (document 02, R-3). Together OneTickMore and a stay of one tick, which is worth what its
--- place is, say what every stay is worth. Proved in proofs/Observed.
+-- What is proved of a stay's observations (document 02, R-3). OneTick and OneTickMore together say what every stay is worth. Proved
+-- in proofs/Observed.
 use Prim.Native.Nat.{ℕ, _+_, _-_, _≤_, _<_}
 use mathlib.Core.Path.{_≡_}
 use mathlib.Core.List.{[]}
@@ -17,6 +17,11 @@ use Rattle.record.specs.Joined.{agrees}
 use Rattle.record.specs.Worth.{stayWorth}
 
 -- ---- tick by tick
+
+-- Theorem: a stay of one tick is worth what its place is then.
+abbrev pub OneTick : Type 0
+OneTick =
+    (p : Pattern) (b : Book) (k t : ℕ) → t < length b → stayWorth p b k t 1 ≡ placeWorth (p .weighing) (placeAt p k) (getD b t [])
 
 -- Theorem: one tick more adds nothing to a stay if it agrees in the place with the tick before, and else what the place is worth
 -- then.
