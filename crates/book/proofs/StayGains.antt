@@ -9,22 +9,18 @@ use lib.Dec.{T}
 use lib.ListN.{length, take, drop}
 use lib.Seq.{drop-cons}
 use lib.IntN.{ℤ, pos, _+ℤ_, +ℤ-idr}
-use lib.Signed.{leZ}
-use Rattle.integers.specs.Least.{minZ}
-use Rattle.integers.proofs.Order.{le-self, le-through}
-use Rattle.integers.proofs.Least.{min-left}
 use Rattle.weighting.specs.declared.Weighing.{Weighing}
 use Rattle.weighting.specs.declared.Weighing.the-variants.{Margin, Sum}
 use Rattle.weighting.specs.Weighting.{combineFrom, combineAll}
 use Rattle.weighting.specs.Weightings.{margin, sum, weightingOf}
-use Rattle.pattern.specs.declared.Place.{Place}
 use Rattle.pattern.specs.declared.Pattern.{Pattern}
 use Rattle.pattern.specs.InUse.{placeAt}
-use Rattle.pattern.specs.Distance.{Sample, distancesOf, placeWorth}
+use Rattle.pattern.specs.Distance.{Sample, placeWorth}
 use Rattle.record.specs.Record.{Book}
 use Rattle.record.specs.Joined.{agrees, joined, observed, freshAfter}
 use Rattle.record.specs.Worth.{stayWorth}
 use Rattle.record.proofs.JoinedLaws.{joined-fresh, agree-worth}
+use Rattle.record.proofs.PlaceLaws.{stays-worth-all, place-is-worth}
 use Rattle.record.proofs.Claims.{margin-counts-ticks}
 use Rattle.walks.specs.Runs.{stayGains, together}
 use Rattle.book.specs.View.{counts, gainBy, gainsBy, sampleAt, before, viewOf}
@@ -32,19 +28,9 @@ use Rattle.book.specs.Claims.{GainsAreWorths, ObservedGains}
 
 -- ---- every gain is a worth
 
-margin-low : (a : ℤ) (l : List ℤ) → T (leZ (combineFrom margin a l) a)
-unfolding combineFrom
-margin-low a [] = le-self a
-margin-low a (d ∷ l) = le-through (combineFrom margin (minZ a d) l) (minZ a d) a (margin-low (minZ a d) l) (min-left a d)
-
 -- worths together are a worth
 pub all-worth : (w : Weighing) (l : List ℤ) → T (weightingOf w .worth (combineAll (weightingOf w) l))
-all-worth Margin l = margin-low (pos 2_000_001) l
-all-worth Sum l = tt
-
-place-worth-worth : (w : Weighing) (l : Place) (s : Sample) → T (weightingOf w .worth (placeWorth w l s))
-unfolding placeWorth
-place-worth-worth w l s = all-worth w (distancesOf l s)
+all-worth w l = stays-worth-all w (weightingOf w .unit) l (weightingOf w .unit-worth)
 
 gain-worth : {A : Type 0} (w : Weighing) (same : A → A → Bool) (worth : A → ℤ) → ((x : A) → T (weightingOf w .worth (worth x)))
     → (last now : A) (f : Bool) → T (weightingOf w .worth (gainBy w same worth last now f))
@@ -58,7 +44,7 @@ gain-worth w same worth h last now f = by (counts w (not (same last now)) f)
 pub gains-are-worths : GainsAreWorths
 gains-are-worths p b t f k g e =
     subst (λ (z : ℤ). T (weightingOf (p .weighing) .worth z)) (Option·some-injective _ g e)
-    (gain-worth (p .weighing) _ _ (place-worth-worth (p .weighing) (placeAt p k)) (before p b t) (sampleAt b t) f)
+    (gain-worth (p .weighing) _ _ (place-is-worth (p .weighing) (placeAt p k)) (before p b t) (sampleAt b t) f)
 
 -- ---- observations together are worth what the ticks gain together
 

@@ -19,7 +19,7 @@ pub struct Walk {
     pub worth: i64,
 }
 
-// Whether the piece is one with the piece before it in the place, in a stay that began in the first.
+// Whether the piece is one with the piece before it in the place, in a stay that began in the piece `first`.
 fn joins(l: Place, channels: usize, values: &[i32], first: usize, piece: usize) -> bool
     requires { ⌜ piece * channels + channels ≤ length (now values) ⌝ }
     ensures { λ r. ⌜ r ≡ joinsTo l (seenAt channels (now (values .entry)) first piece)

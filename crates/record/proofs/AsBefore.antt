@@ -3,7 +3,7 @@ use Prim.Native.Nat.{ℕ, _+_}
 use native.Mathlib.Omega.{arith}
 use mathlib.Core.Path.{_≡_, refl, sym, ap, ap₂, subst, _∙_}
 use mathlib.Core.List.{List, [], _∷_, map}
-use mathlib.Core.Bool.{Bool, true, false, _&&_, and-true}
+use mathlib.Core.Bool.{Bool, true, false, _&&_, and-true, false≢true}
 use borrow.Author.Tests.{ltb-true, ltb-false, eqb-true}
 use lib.Dec.{eqb, ltb}
 use lib.ListN.{length, take, drop}
@@ -32,16 +32,13 @@ use Rattle.record.proofs.JoinedLaws.{joined-fresh, margin-joined, agree
 use Rattle.record.proofs.PlaceLaws.{place-at-sound, past-testless}
 use Rattle.record.proofs.Observed.{units}
 
-no : _≡_ {A = Bool} false true → ⊥
-no e = let z : _≡_ {A = ℕ} 0 1 = cc in omega arith
-
 -- ---- samples that are the same agree in every place
 
 same-true : (s t : Sample) → sameSample s t ≡ true → s ≡ t
 unfolding sameSample
 same-true [] [] e = refl
-same-true [] (y ∷ t) e = absurd (no e)
-same-true (x ∷ s) [] e = absurd (no e)
+same-true [] (y ∷ t) e = absurd (false≢true e)
+same-true (x ∷ s) [] e = absurd (false≢true e)
 same-true (x ∷ s) (y ∷ t) e =
     let h = both (eqZ x y) (sameSample s t) e in
     let a : x ≡ y = eq-true x y (h .0) in
@@ -106,7 +103,7 @@ agrees-one : (l : Place) (t : Test) (ts : List Test) → testsOf l ≡ t ∷ ts 
     → (x y : Sample) → One x ≡ true → One y ≡ true → agrees l x y ≡ sameSample x y
 unfolding agrees sameSample
 agrees-one l t ts is k (v ∷ []) (u ∷ []) p q = rw is (agree-one v u t ts k ∙ sym (and-true (eqZ v u)))
-agrees-one l t ts is k [] y p q = absurd (no p)
+agrees-one l t ts is k [] y p q = absurd (false≢true p)
 agrees-one l t ts is k (v ∷ w ∷ x) y p q = absurd (let h = eqb-true (length (v ∷ w ∷ x)) 1 p in omega arith)
 agrees-one l t ts is k (v ∷ []) [] p q = absurd (let h = eqb-true (length {A = ℤ} []) 1 q in omega arith)
 agrees-one l t ts is k (v ∷ []) (u ∷ w ∷ y) p q = absurd (let h = eqb-true (length (u ∷ w ∷ y)) 1 q in omega arith)

@@ -3,7 +3,7 @@ use Prim.Native.Nat.{ℕ, suc, _+_, _-_, _≤_, _<_}
 use native.Mathlib.Omega.{arith}
 use mathlib.Core.Path.{_≡_, refl, sym, ap, subst, _∙_}
 use mathlib.Core.List.{List, [], _∷_, _++_, map, append-assoc, map-append}
-use mathlib.Core.Bool.{Bool, true, false, not, cond, _&&_, and-false}
+use mathlib.Core.Bool.{Bool, true, false, not, cond, _&&_, and-false, true≢false, false≢true}
 use borrow.Author.Tests.{eq-eqb, eqb-true}
 use lib.Dec.{eqb}
 use lib.ListN.{length, take, drop, getD, length-drop}
@@ -27,9 +27,6 @@ use Rattle.record.specs.Worth.{stayWorth}
 use Rattle.record.specs.Observed.{OneTick, OneTickMore, AgreesWhereTested, TwitchAddsNothing, OnlyTestedSpeak, NoTestsAddNothing}
 use Rattle.record.proofs.JoinedLaws.{joined-fresh, agree-worth, agrees-alike}
 use Rattle.record.proofs.PlaceLaws.{place-is-worth, testless-worth}
-
-no : _≡_ {A = Bool} false true → ⊥
-no e = let z : _≡_ {A = ℕ} 0 1 = cc in omega arith
 
 -- ---- tick by tick
 
@@ -122,7 +119,7 @@ agree-all x y (t ∷ ts) h =
     (agree-all x y ts (λ c e. h c (ap (λ (r : Bool). not (eqb (t .channel) c) && r) e ∙ and-false (not (eqb (t .channel) c)))))
 
 all-agree : (x y : Sample) (ts : List Test) → all (agreeOn x y) ts ≡ true → (c : ℕ) → all (λ t. not (eqb (t .channel) c)) ts ≡ false → readingOf x c ≡ readingOf y c
-all-agree x y [] e c h = absurd (no (sym h))
+all-agree x y [] e c h = absurd (true≢false h)
 all-agree x y (t ∷ ts) e c h =
     let k = both (agreeOn x y t) (all (agreeOn x y) ts) e in
     by (eqb (t .channel) c) refl (eq-true (readingOf x (t .channel)) (readingOf y (t .channel)) (k .0)) (λ g. all-agree x y ts (k .1) c g) h
@@ -135,7 +132,7 @@ all-agree x y (t ∷ ts) e c h =
 
 pub agrees-where-tested : AgreesWhereTested
 unfolding agrees
-agrees-where-tested l x y = record { same = all-agree x y (testsOf l); agree = agree-all x y (testsOf l) }
+agrees-where-tested l x y = record { readings = all-agree x y (testsOf l); agree = agree-all x y (testsOf l) }
 
 pub twitch-adds-nothing : TwitchAddsNothing
 twitch-adds-nothing p b k t n some-ticks inside h =
@@ -161,8 +158,8 @@ module _ (w : Weighing) (l : Place) where
       → combineFrom (weightingOf w) a (map (placeWorth w l) (freshAfter (agrees l) x b)) ≡ combineFrom (weightingOf w) a (map (placeWorth w l) (freshAfter (agrees l) x' c))
   unfolding freshAfter agreeThroughout combineFrom
   fresh-worth a x x' [] [] e h = refl
-  fresh-worth a x x' [] (y ∷ c) e h = absurd (no h)
-  fresh-worth a x x' (y ∷ b) [] e h = absurd (no h)
+  fresh-worth a x x' [] (y ∷ c) e h = absurd (false≢true h)
+  fresh-worth a x x' (y ∷ b) [] e h = absurd (false≢true h)
   fresh-worth a x x' (y ∷ b) (y' ∷ c) e h =
       let k = both (agrees l y y') (agreeThroughout l b c) h in
       rw (agrees-alike l x x' y y' e (k .0)) (by (agrees l x' y') (λ z. fresh-worth z y y' b c (k .0) (k .1)) (agree-worth w l y y' (k .0)))
@@ -179,8 +176,8 @@ module _ (w : Weighing) (l : Place) where
       → combineAll (weightingOf w) (map (placeWorth w l) (joined (agrees l) b)) ≡ combineAll (weightingOf w) (map (placeWorth w l) (joined (agrees l) c))
   unfolding agreeThroughout combineFrom
   joined-worth [] [] h = refl
-  joined-worth [] (y ∷ c) h = absurd (no h)
-  joined-worth (x ∷ b) [] h = absurd (no h)
+  joined-worth [] (y ∷ c) h = absurd (false≢true h)
+  joined-worth (x ∷ b) [] h = absurd (false≢true h)
   joined-worth (x ∷ b) (y ∷ c) h =
       let k = both (agrees l x y) (agreeThroughout l b c) h in
       rw (joined-fresh (agrees l) x b, joined-fresh (agrees l) y c, agree-worth w l x y (k .0))

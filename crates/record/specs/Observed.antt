@@ -45,7 +45,7 @@ SameWhereTested l x y = (c : ℕ) → untested l c ≡ false → readingOf x c �
 
 -- Theorem: then they agree in the place, and only then.
 pub record AgreementMeans (l : Place) (x y : Sample) : Type 0 where
-  pub same : agrees l x y ≡ true → SameWhereTested l x y
+  pub readings : agrees l x y ≡ true → SameWhereTested l x y
   pub agree : SameWhereTested l x y → agrees l x y ≡ true
 
 abbrev pub AgreesWhereTested : Type 0
@@ -61,9 +61,9 @@ TwitchAddsNothing =
 -- Theorem: what untested channels hold during a stay has no say in its worth.
 abbrev pub OnlyTestedSpeak : Type 0
 OnlyTestedSpeak =
-    (p : Pattern) (b c : Book) (k t n : ℕ) → t + n ≤ length b → t + n ≤ length c
-    → ((i : ℕ) → i < n → SameWhereTested (placeAt p k) (getD b (t + i) []) (getD c (t + i) []))
-    → stayWorth p b k t n ≡ stayWorth p c k t n
+    (p : Pattern) (b other : Book) (k t n : ℕ) → t + n ≤ length b → t + n ≤ length other
+    → ((i : ℕ) → i < n → SameWhereTested (placeAt p k) (getD b (t + i) []) (getD other (t + i) []))
+    → stayWorth p b k t n ≡ stayWorth p other k t n
 
 -- Theorem: without tests a stay is worth the unit, whatever it observes: 0 in sum, 2,000,001 in margin.
 abbrev pub NoTestsAddNothing : Type 0
