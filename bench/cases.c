@@ -158,13 +158,12 @@ uint64_t draw(struct draws *d, uint64_t below)
 static struct record new_record(size_t entries, size_t channels)
 {
     struct record r = {entries, channels, 0, malloc(entries * sizeof *r.durations),
-                       malloc(entries * channels * sizeof *r.values), malloc(entries * channels)};
+                       malloc(entries * channels * sizeof *r.values)};
 
-    if (!r.durations || !r.values || !r.read) {
+    if (!r.durations || !r.values) {
         fprintf(stderr, "bench: no memory for a record\n");
         exit(2);
     }
-    memset(r.read, 1, entries * channels);
     return r;
 }
 
@@ -172,7 +171,6 @@ void free_record(struct record *r)
 {
     free(r->durations);
     free(r->values);
-    free(r->read);
 }
 
 /* A car under cruise control, second by second: the velocity follows the reference as a damped swing (0.1 radians a
@@ -288,26 +286,5 @@ struct record sensors_record(size_t entries)
         memcpy(r.values + 8 * i, now, sizeof now);
     }
     r.ticks = entries;
-    return r;
-}
-
-/* The same sensors, each of which drops out now and then for one to nine entries. */
-struct record dropout_record(size_t entries)
-{
-    struct record r = sensors_record(entries);
-    struct draws d = {SEED};
-    uint64_t left[8] = {0}; /* entries that a sensor is still out */
-
-    for (size_t i = 0; i < 8 * entries; i++) {
-        uint64_t *out = &left[i % 8];
-
-        if (*out == 0 && draw(&d, 45) == 0)
-            *out = 1 + draw(&d, 9);
-        if (*out == 0)
-            continue;
-        --*out;
-        r.values[i] = 0;
-        r.read[i] = 0;
-    }
     return r;
 }

@@ -7,13 +7,12 @@
 
 #include "bench_margin.h"
 
-/* A record: one entry after the other, the values of an entry channel by channel, and for each whether it was read. */
+/* A record: one entry after the other, the values of an entry channel by channel. */
 struct record {
     size_t entries, channels;
     size_t ticks; /* of all entries */
     uint32_t *durations;
     int32_t *values;
-    uint8_t *read;
 };
 
 /* Pattern texts. Each is ended by a zero byte and lasts until the next call. `weighting` is "margin" or "sum", `high` the
@@ -31,7 +30,6 @@ struct record cruise_record(size_t entries, unsigned period); /* channels: refer
 struct record swing_record(size_t entries, unsigned period);  /* channel: velocity less that of 10 s before */
 struct record gearbox_record(size_t entries);                 /* channels: oil pressure, torque, speed */
 struct record sensors_record(size_t entries);                 /* eight channels, of which an entry moves a few */
-struct record dropout_record(size_t entries);                 /* the same with about a tenth of its readings lost */
 void free_record(struct record *r);
 
 /* Random numbers from a fixed seed. */

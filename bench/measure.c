@@ -119,34 +119,19 @@ static uint32_t open_by(int monitor, const struct pattern *p, struct lent *l)
                                                                 p->cells, l->second, p->cells);
 }
 
-/* Feeds a piece; its reports stand from place `at` on. */
-static uint32_t feed_piece(int monitor, const struct pattern *p, struct lent *l, uint32_t duration, const int32_t *values,
-                           const uint8_t *read, size_t at)
+/* Feeds an entry; its reports stand from place `at` on. */
+static uint32_t feed_by(int monitor, const struct pattern *p, struct lent *l, uint32_t duration, const int32_t *values,
+                        size_t at)
 {
     size_t channels = (size_t)p->plain.channels, room = l->reports - at;
 
     if (monitor == LIBRARY)
         return monitor_feed((const uint8_t *)p->text, p->length, l->state, MONITOR_STATE_LENGTH, l->first, p->cells,
-                            l->second, p->cells, duration, values, channels, read, channels, l->scores + at, room,
-                            l->lengths + at, room);
+                            l->second, p->cells, duration, values, channels, l->scores + at, room, l->lengths + at,
+                            room);
     return (monitor == GCC ? plain_feed_gcc : plain_feed_clang)(
-        &p->plain, l->state, MONITOR_STATE_LENGTH, l->first, p->cells, l->second, p->cells, duration, values, channels, read,
-        channels, l->scores + at, room, l->lengths + at, room);
-}
-
-/* A piece of which all was read. */
-static uint32_t feed_by(int monitor, const struct pattern *p, struct lent *l, uint32_t duration, const int32_t *values,
-                        size_t at)
-{
-    static const uint8_t read[PATTERN_CHANNELS_MAX] = {1, 1, 1, 1, 1, 1, 1, 1};
-
-    return feed_piece(monitor, p, l, duration, values, read, at);
-}
-
-/* An entry of a record. */
-static uint32_t feed_entry(int monitor, const struct pattern *p, struct lent *l, const struct record *r, size_t i, size_t at)
-{
-    return feed_piece(monitor, p, l, r->durations[i], r->values + i * r->channels, r->read + i * r->channels, at);
+        &p->plain, l->state, MONITOR_STATE_LENGTH, l->first, p->cells, l->second, p->cells, duration, values, channels,
+        l->scores + at, room, l->lengths + at, room);
 }
 
 /* An opening and a whole record, entry by entry; 0, or the first refusal. */
@@ -156,7 +141,7 @@ static uint32_t run_by(int monitor, const struct pattern *p, struct lent *l, con
     size_t at = 0;
 
     for (size_t i = 0; i < r->entries && answer == CALL_DONE; i++) {
-        answer = feed_entry(monitor, p, l, r, i, at);
+        answer = feed_by(monitor, p, l, r->durations[i], r->values + i * r->channels, at);
         at += r->durations[i];
     }
     return answer;
@@ -333,7 +318,7 @@ static void record_round(struct timing *t, struct parts *parts, const char *name
                 answers[m] = open_by(m, p, &lent[m]);
             next = at;
             for (size_t k = from; k < to && answers[m] == CALL_DONE; k++) {
-                answers[m] = feed_entry(m, p, &lent[m], r, k, next);
+                answers[m] = feed_by(m, p, &lent[m], r->durations[k], r->values + k * r->channels, next);
                 next += r->durations[k];
             }
             took = now() - start;
@@ -442,12 +427,12 @@ static size_t window_of(const char *text)
 }
 
 /* After the source's experiments, both weightings each; a band; the four clocks of examples/gearbox; and eight channels, of which
- * an entry moves a few, so that in sum it is new to some places and not to others, all of them read and with readings lost. */
+ * an entry moves a few, so that in sum it is new to some places and not to others. */
 static void records(void)
 {
     static const char *const weightings[] = {"margin", "sum"};
     struct record cruise = cruise_record(ENTRIES, 10), swing = swing_record(ENTRIES, 10), gears = gearbox_record(ENTRIES);
-    struct record part = cruise, sensors = sensors_record(10000), dropouts = dropout_record(10000);
+    struct record part = cruise, sensors = sensors_record(10000);
 
     for (int w = 0; w < 2; w++) {
         const char *weighting = weightings[w];
@@ -468,12 +453,10 @@ static void records(void)
     time_record("record", "OVERSHOOT unbounded, margin", 4095, unbounded("margin", 4095), &part);
     time_record("record", "gearbox, margin", window_of(gearbox("margin", 0)), gearbox("margin", 0), &gears);
     time_record("record", "eight channels, sum", 30, eight_channels("sum", 30, 15), &sensors);
-    time_record("record", "eight channels with readings lost, sum", 30, eight_channels("sum", 30, 15), &dropouts);
     free_record(&cruise);
     free_record(&swing);
     free_record(&gears);
     free_record(&sensors);
-    free_record(&dropouts);
 }
 
 static void growth(void)
@@ -709,11 +692,10 @@ static struct record_best best_by(int monitor, const struct pattern *p, struct l
 
     if (monitor == LIBRARY)
         return record_best((const uint8_t *)p->text, p->length, r->durations, r->entries, r->values,
-                           r->entries * r->channels, r->read, r->entries * r->channels, l->first, p->cells, l->second,
-                           p->cells);
+                           r->entries * r->channels, l->first, p->cells, l->second, p->cells);
     best.refusal = open_by(monitor, p, l);
     for (size_t i = 0; i < r->entries && best.refusal == CALL_DONE; i++) {
-        best.refusal = feed_entry(monitor, p, l, r, i, 0);
+        best.refusal = feed_by(monitor, p, l, r->durations[i], r->values + i * r->channels, 0);
         for (uint32_t t = 0; t < r->durations[i] && best.refusal == CALL_DONE; t++) {
             now_at++;
             if (l->lengths[t] == 0)
@@ -858,17 +840,12 @@ enum fault {
     LAST_VALUE_OUT,
     UNUSED_CHANNEL,
     VALUE_AT_0_TICKS,
-    LAST_NOT_READ,
-    UNUSED_NOT_READ,
-    NOT_READ_AT_0_TICKS,
     FIRST_TABLE_SHORT,
     SECOND_TABLE_SHORT,
     NO_TICKS,
     LONG_PIECE,
     VALUE_OUT,
     VALUE_TOO_MANY,
-    VALUE_NOT_READ,
-    FLAG_TOO_MANY,
     TICKS_PASS,
     CELL_OUT,
     SCORES_SHORT,
@@ -878,10 +855,9 @@ enum fault {
 
 /* The arguments of a feed, beside what is lent. */
 struct call {
-    size_t first_length, second_length, values_length, read_length, scores_length, lengths_length;
+    size_t first_length, second_length, values_length, scores_length, lengths_length;
     uint32_t duration;
     int32_t values[2];
-    uint8_t read[2];
 };
 
 static void make_fault(enum fault fault, const struct pattern *p, struct lent *l, struct call *c)
@@ -898,15 +874,6 @@ static void make_fault(enum fault fault, const struct pattern *p, struct lent *l
         break;
     case VALUE_AT_0_TICKS:
         l->state[0] = 0;
-        break;
-    case LAST_NOT_READ: /* and its value is not 0 */
-        l->state[9] = 0;
-        break;
-    case UNUSED_NOT_READ:
-        l->state[11] = 0;
-        break;
-    case NOT_READ_AT_0_TICKS:
-        l->state[0] = l->state[1] = l->state[9] = 0;
         break;
     case FIRST_TABLE_SHORT:
         c->first_length = p->cells - 1;
@@ -925,12 +892,6 @@ static void make_fault(enum fault fault, const struct pattern *p, struct lent *l
         break;
     case VALUE_TOO_MANY:
         c->values_length = 2;
-        break;
-    case VALUE_NOT_READ:
-        c->read[0] = 0;
-        break;
-    case FLAG_TOO_MANY:
-        c->read_length = 2;
         break;
     case TICKS_PASS:
         l->state[0] = TICKS_MAX - 2;
@@ -960,10 +921,8 @@ static void copy_lent(const struct pattern *p, struct lent *to, const struct len
 static void refusals(void)
 {
     static const uint32_t numbers[FAULTS] = {
-        STATE_BROKEN,      STATE_BROKEN,    STATE_BROKEN,    STATE_BROKEN,  STATE_BROKEN,  STATE_BROKEN,
-        STATE_BROKEN,      TABLE_TOO_SHORT, TABLE_TOO_SHORT, RECORD_BROKEN, RECORD_BROKEN, RECORD_BROKEN,
-        RECORD_BROKEN,     RECORD_BROKEN,   RECORD_BROKEN,   TOO_MANY_TICKS, CELL_BROKEN,  REPORTS_TOO_SHORT,
-        REPORTS_TOO_SHORT};
+        STATE_BROKEN,  STATE_BROKEN,  STATE_BROKEN,  STATE_BROKEN,   TABLE_TOO_SHORT, TABLE_TOO_SHORT,   RECORD_BROKEN,
+        RECORD_BROKEN, RECORD_BROKEN, RECORD_BROKEN, TOO_MANY_TICKS, CELL_BROKEN,     REPORTS_TOO_SHORT, REPORTS_TOO_SHORT};
     struct record swing = swing_record(50, 10);
     struct pattern *p = new_pattern(ringing("sum", 8, 8, 4));
     struct lent sound = new_lent(p, swing.ticks), l = new_lent(p, swing.ticks), saved = new_lent(p, swing.ticks);
@@ -974,7 +933,7 @@ static void refusals(void)
     for (int one = 0; one < FAULTS; one++)
         for (int other = one; other < FAULTS; other++) {
             for (int m = 0; m < MONITORS; m++) {
-                struct call c = {p->cells, p->cells, 1, 1, swing.ticks, swing.ticks, 3, {5, 5}, {1, 1}};
+                struct call c = {p->cells, p->cells, 1, swing.ticks, swing.ticks, 3, {5, 5}};
                 uint32_t answer;
 
                 copy_lent(p, &l, &sound);
@@ -984,13 +943,11 @@ static void refusals(void)
                 if (m == LIBRARY)
                     answer = monitor_feed((const uint8_t *)p->text, p->length, l.state, MONITOR_STATE_LENGTH, l.first,
                                           c.first_length, l.second, c.second_length, c.duration, c.values,
-                                          c.values_length, c.read, c.read_length, l.scores, c.scores_length, l.lengths,
-                                          c.lengths_length);
+                                          c.values_length, l.scores, c.scores_length, l.lengths, c.lengths_length);
                 else
                     answer = (m == GCC ? plain_feed_gcc : plain_feed_clang)(
                         &p->plain, l.state, MONITOR_STATE_LENGTH, l.first, c.first_length, l.second, c.second_length,
-                        c.duration, c.values, c.values_length, c.read, c.read_length, l.scores, c.scores_length, l.lengths,
-                        c.lengths_length);
+                        c.duration, c.values, c.values_length, l.scores, c.scores_length, l.lengths, c.lengths_length);
                 if (answer != numbers[one]) {
                     printf("DIFFERENT faults %d and %d: %s answers %" PRIu32 "\n", one, other, names[m], answer);
                     exit(1);
@@ -1105,11 +1062,8 @@ static void second_case(const char *scorer, const char *directory, const char *n
     fputs(p->text, pattern);
     for (size_t i = 0; i < r->entries; i++) {
         fprintf(record, "(piece %" PRIu32, r->durations[i]);
-        for (size_t c = i * r->channels; c < (i + 1) * r->channels; c++)
-            if (r->read[c])
-                fprintf(record, " %" PRId32, r->values[c]);
-            else
-                fprintf(record, " ?");
+        for (size_t c = 0; c < r->channels; c++)
+            fprintf(record, " %" PRId32, r->values[i * r->channels + c]);
         fprintf(record, ")\n");
     }
     fclose(pattern);
@@ -1200,7 +1154,7 @@ static void feed_all(int monitor, const struct pattern *p, struct lent *l, const
     uint32_t answer = open_by(monitor, p, l);
 
     for (size_t i = 0; i < entries && answer == CALL_DONE; i++)
-        answer = feed_entry(monitor, p, l, r, i, 0);
+        answer = feed_by(monitor, p, l, r->durations[i], r->values + i * r->channels, 0);
     if (answer != CALL_DONE)
         fail("a record is refused");
 }
@@ -1264,15 +1218,12 @@ static void *all_calls(void *argument)
     static int64_t state[MONITOR_STATE_LENGTH], scores[64];
     static uint32_t lengths[64], durations[] = {9, 400, 1, 70, 2000}, edges[] = {0}, stays[] = {1};
     static int32_t values[5 * 8];
-    static uint8_t read[5 * 8];
     uint32_t *refused = argument;
     size_t cells = pattern_cells(large_text, large_length);
     int64_t *first = malloc(cells * sizeof *first), *second = malloc(cells * sizeof *second);
 
-    for (int i = 0; i < 40; i++) {
+    for (int i = 0; i < 40; i++)
         values[i] = i % 13 - 6;
-        read[i] = 1;
-    }
     if (!first || !second || cells == 0) {
         *refused = 1;
         return NULL;
@@ -1281,9 +1232,9 @@ static void *all_calls(void *argument)
     *refused |= monitor_open(large_text, large_length, state, MONITOR_STATE_LENGTH, first, cells, second, cells);
     for (int i = 0; i < 5; i++)
         *refused |= monitor_feed(large_text, large_length, state, MONITOR_STATE_LENGTH, first, cells, second, cells,
-                                 durations[i] % 64 + 1, values + 8 * i, 8, read + 8 * i, 8, scores, 64, lengths, 64);
-    *refused |= record_best(large_text, large_length, durations, 5, values, 40, read, 40, first, cells, second, cells).refusal;
-    *refused |= run_price(large_text, large_length, durations, 5, values, 40, read, 40, 2, edges, 1, stays, 1).refusal;
+                                 durations[i] % 64 + 1, values + 8 * i, 8, scores, 64, lengths, 64);
+    *refused |= record_best(large_text, large_length, durations, 5, values, 40, first, cells, second, cells).refusal;
+    *refused |= run_price(large_text, large_length, durations, 5, values, 40, 2, edges, 1, stays, 1).refusal;
     free(first);
     free(second);
     return NULL;

@@ -9,8 +9,6 @@
 
 #include "bench_margin.h"
 
-enum { READ = 1 + PATTERN_CHANNELS_MAX }; /* where a state's flags begin */
-
 /* Is the first worth better: in `sum` the least is best, in `margin` the greatest. */
 static inline int better(int sum, int64_t one, int64_t other)
 {
@@ -62,26 +60,12 @@ static int64_t gain(int sum, const struct plain_place *q, const int32_t *values)
     return worth;
 }
 
-/* Can a run stay in a place: was every channel read that it tests. */
-static int is_open(const struct plain_place *q, const uint8_t *read)
+/* Are these values new to a place that a run stays in: do they differ from the last ones where it has a test. */
+static int is_new(const struct plain_place *q, const int32_t *values, const int64_t *last)
 {
     for (int i = 0; i < q->tests; i++)
-        if (read[q->test[i].channel] == 0)
-            return 0;
-    return 1;
-}
-
-/* Are these values new to a place that a run stays in: do they differ from the last ones where it has a test. A value that was
- * read differs from one that was not. */
-static int is_new(const struct plain_place *q, const int32_t *values, const uint8_t *read, const int64_t *last,
-                  const int64_t *last_read)
-{
-    for (int i = 0; i < q->tests; i++) {
-        int channel = q->test[i].channel;
-
-        if (values[channel] != last[channel] || (read[channel] == 0) != (last_read[channel] == 0))
+        if (values[q->test[i].channel] != last[q->test[i].channel])
             return 1;
-    }
     return 0;
 }
 
@@ -160,10 +144,10 @@ static void move_block(const struct plain_pattern *p, int place, int64_t amount,
                 }
 }
 
-/* One tick: `to` becomes the table that follows `from`. No run goes on from a place that is not `open`. In `sum` a place adds
- * its distances when it was just entered, and when the values are new to it (`fresh`); in `margin` every tick has its say. */
+/* One tick: `to` becomes the table that follows `from`. In `sum` a place adds its distances when it was just entered, and
+ * when the values are new to it (`fresh`); in `margin` every tick has its say. */
 static void tick(const struct plain_pattern *p, const int64_t *from, int64_t *restrict to, const int64_t *gains,
-                 const int *open, const int *fresh)
+                 const int *fresh)
 {
     clear(p, to);
     for (size_t length = 0; length < p->high; length++)
@@ -172,8 +156,7 @@ static void tick(const struct plain_pattern *p, const int64_t *from, int64_t *re
                 const int64_t *block = from + length * p->row + (size_t)(stage * p->places + place) * p->block;
                 int adds = !p->sum || stage == 0 || fresh[place];
 
-                if (open[place])
-                    move_block(p, place, adds ? gains[place] : 0, block, to + (length + 1) * p->row);
+                move_block(p, place, adds ? gains[place] : 0, block, to + (length + 1) * p->row);
             }
     begin_runs(p, to);
 }
@@ -202,32 +185,26 @@ static int in_range(int64_t value)
     return value >= -VALUE_MAX && value <= VALUE_MAX;
 }
 
-/* Ticks up to TICKS_MAX, values in range, zeros where they were not read, and in unused channels and before the first tick zeros
- * that were read. */
+/* Ticks up to TICKS_MAX, values in range, zeros in unused channels and before the first tick. */
 static int state_sound(const struct plain_pattern *p, const int64_t *state)
 {
     if (state[0] < 0 || state[0] > TICKS_MAX)
         return 0;
     for (int c = 0; c < PATTERN_CHANNELS_MAX; c++) {
-        int64_t value = state[1 + c], read = state[READ + c];
-
-        if (!in_range(value) || (read == 0 && value != 0))
+        if (!in_range(state[1 + c]))
             return 0;
-        if ((c >= p->channels || state[0] == 0) && (value != 0 || read == 0))
+        if ((c >= p->channels || state[0] == 0) && state[1 + c] != 0)
             return 0;
     }
     return 1;
 }
 
-static int piece_sound(const struct plain_pattern *p, uint32_t duration, const int32_t *values, size_t values_length,
-                       const uint8_t *read, size_t read_length)
+static int piece_sound(const struct plain_pattern *p, uint32_t duration, const int32_t *values, size_t count)
 {
-    size_t channels = (size_t)p->channels;
-
-    if (duration < 1 || duration > PIECE_TICKS_MAX || values_length != channels || read_length != channels)
+    if (duration < 1 || duration > PIECE_TICKS_MAX || count != (size_t)p->channels)
         return 0;
-    for (size_t c = 0; c < channels; c++)
-        if (!in_range(values[c]) || (read[c] == 0 && values[c] != 0))
+    for (size_t c = 0; c < count; c++)
+        if (!in_range(values[c]))
             return 0;
     return 1;
 }
@@ -248,8 +225,6 @@ uint32_t PLAIN_OPEN(const struct plain_pattern *p, int64_t *state, size_t state_
     if (state_length < MONITOR_STATE_LENGTH)
         return STATE_BROKEN;
     memset(state, 0, MONITOR_STATE_LENGTH * sizeof *state);
-    for (int c = 0; c < PATTERN_CHANNELS_MAX; c++)
-        state[READ + c] = 1;
     clear(p, first);
     begin_runs(p, first);
     clear(p, second);
@@ -258,19 +233,19 @@ uint32_t PLAIN_OPEN(const struct plain_pattern *p, int64_t *state, size_t state_
 
 uint32_t PLAIN_FEED(const struct plain_pattern *p, int64_t *state, size_t state_length, int64_t *first,
                     size_t first_length, int64_t *second, size_t second_length, uint32_t duration,
-                    const int32_t *values, size_t values_length, const uint8_t *read, size_t read_length,
-                    int64_t *scores, size_t scores_length, uint32_t *lengths, size_t lengths_length)
+                    const int32_t *values, size_t values_length, int64_t *scores, size_t scores_length,
+                    uint32_t *lengths, size_t lengths_length)
 {
     static const int nowhere[PLACES]; /* from a piece's second tick on its values are new to no place */
     int64_t *from = first, *to = second, *swap;
     int64_t gains[PLACES];
-    int open[PLACES], fresh[PLACES];
+    int fresh[PLACES];
 
     if (state_length < MONITOR_STATE_LENGTH || !state_sound(p, state))
         return STATE_BROKEN;
     if (first_length < p->cells || second_length < p->cells)
         return TABLE_TOO_SHORT;
-    if (!piece_sound(p, duration, values, values_length, read, read_length))
+    if (!piece_sound(p, duration, values, values_length))
         return RECORD_BROKEN;
     if (state[0] + duration > TICKS_MAX)
         return TOO_MANY_TICKS;
@@ -281,11 +256,10 @@ uint32_t PLAIN_FEED(const struct plain_pattern *p, int64_t *state, size_t state_
 
     for (int q = 0; q < p->places; q++) {
         gains[q] = gain(p->sum, &p->place[q], values);
-        open[q] = is_open(&p->place[q], read);
-        fresh[q] = is_new(&p->place[q], values, read, state + 1, state + READ);
+        fresh[q] = is_new(&p->place[q], values, state + 1);
     }
     for (uint32_t t = 0; t < duration; t++) {
-        tick(p, from, to, gains, open, t == 0 ? fresh : nowhere);
+        tick(p, from, to, gains, t == 0 ? fresh : nowhere);
         report(p, to, &scores[t], &lengths[t]);
         swap = from;
         from = to;
@@ -295,9 +269,7 @@ uint32_t PLAIN_FEED(const struct plain_pattern *p, int64_t *state, size_t state_
         memcpy(first, from, p->cells * sizeof *first);
     clear(p, second);
     state[0] += duration;
-    for (int c = 0; c < PATTERN_CHANNELS_MAX; c++) {
-        state[1 + c] = c < p->channels ? values[c] : 0;
-        state[READ + c] = c >= p->channels || read[c] != 0;
-    }
+    for (int c = 0; c < p->channels; c++)
+        state[1 + c] = values[c];
     return CALL_DONE;
 }

@@ -68,8 +68,8 @@ typedef uint32_t plain_open(const struct plain_pattern *p, int64_t *state, size_
                             size_t first_length, int64_t *second, size_t second_length);
 typedef uint32_t plain_feed(const struct plain_pattern *p, int64_t *state, size_t state_length, int64_t *first,
                             size_t first_length, int64_t *second, size_t second_length, uint32_t duration,
-                            const int32_t *values, size_t values_length, const uint8_t *read, size_t read_length,
-                            int64_t *scores, size_t scores_length, uint32_t *lengths, size_t lengths_length);
+                            const int32_t *values, size_t values_length, int64_t *scores, size_t scores_length,
+                            uint32_t *lengths, size_t lengths_length);
 plain_open plain_open_gcc, plain_open_clang;
 plain_feed plain_feed_gcc, plain_feed_clang;
 

@@ -1,9 +1,6 @@
 /* turns.c: what a change of the library costs. The library before it, its functions renamed to begin with `old_`, and the library
  * after it are called in turn on the same patterns and records; bench/turns builds and runs it. A line has the microseconds of an
- * entry before and after, and the time after over the time before. Answers are not compared: a change may change them.
- *
- * The library before may be one without flags for lost readings. Its monitor_feed has two parameters fewer, and its state has 9
- * entries, so an opening on 9 tells it apart. Then all records are wholly read, and the one with readings lost is left out. */
+ * entry before and after, and the time after over the time before. Answers are not compared: a change may change them. */
 #include <inttypes.h>
 #include <stdio.h>
 #include <stdlib.h>
@@ -17,12 +14,8 @@ uint32_t old_monitor_open(const uint8_t *text, size_t text_length, int64_t *stat
                           size_t first_length, int64_t *second, size_t second_length);
 uint32_t old_monitor_feed(const uint8_t *text, size_t text_length, int64_t *state, size_t state_length, int64_t *first,
                           size_t first_length, int64_t *second, size_t second_length, uint32_t duration,
-                          const int32_t *values, size_t values_length, const uint8_t *read, size_t read_length,
-                          int64_t *scores, size_t scores_length, uint32_t *lengths, size_t lengths_length);
-typedef uint32_t feed_without_flags(const uint8_t *text, size_t text_length, int64_t *state, size_t state_length, int64_t *first,
-                                    size_t first_length, int64_t *second, size_t second_length, uint32_t duration,
-                                    const int32_t *values, size_t values_length, int64_t *scores, size_t scores_length,
-                                    uint32_t *lengths, size_t lengths_length);
+                          const int32_t *values, size_t values_length, int64_t *scores, size_t scores_length,
+                          uint32_t *lengths, size_t lengths_length);
 
 enum { OLD, NEW, BOTH };
 enum { ENTRIES = 10000, PART = 200, PARTS = ENTRIES / PART, ROUNDS = 9, CALLS = 401, TICKS = 8 };
@@ -31,7 +24,6 @@ enum { ENTRIES = 10000, PART = 200, PARTS = ENTRIES / PART, ROUNDS = 9, CALLS = 
 static uint8_t text[PATTERN_TEXT_MAX];
 static size_t text_length, cells;
 static int64_t state[BOTH][MONITOR_STATE_LENGTH], *first[BOTH], *second[BOTH];
-static int old_has_flags;
 
 static double now(void)
 {
@@ -83,19 +75,14 @@ static void open_both(void)
     done(monitor_open(text, text_length, state[NEW], MONITOR_STATE_LENGTH, first[NEW], cells, second[NEW], cells));
 }
 
-static void feed(int v, uint32_t duration, const int32_t *values, const uint8_t *read, size_t channels)
+static void feed(int v, uint32_t duration, const int32_t *values, size_t channels)
 {
-    feed_without_flags *without = (feed_without_flags *)(void (*)(void))old_monitor_feed;
     int64_t scores[TICKS];
     uint32_t lengths[TICKS];
 
-    if (v == OLD && !old_has_flags)
-        done(without(text, text_length, state[v], MONITOR_STATE_LENGTH, first[v], cells, second[v], cells, duration, values,
-                     channels, scores, TICKS, lengths, TICKS));
-    else
-        done((v == NEW ? monitor_feed : old_monitor_feed)(text, text_length, state[v], MONITOR_STATE_LENGTH, first[v], cells,
-                                                          second[v], cells, duration, values, channels, read, channels, scores,
-                                                          TICKS, lengths, TICKS));
+    done((v == NEW ? monitor_feed : old_monitor_feed)(text, text_length, state[v], MONITOR_STATE_LENGTH, first[v], cells,
+                                                      second[v], cells, duration, values, channels, scores, TICKS, lengths,
+                                                      TICKS));
 }
 
 static int rising(const void *one, const void *other)
@@ -132,7 +119,7 @@ static void time_record(const char *name, const char *weighting, const char *pat
                 double start = now();
 
                 for (size_t i = (size_t)part * PART; i < (size_t)(part + 1) * PART; i++)
-                    feed(v, r->durations[i], r->values + i * r->channels, r->read + i * r->channels, r->channels);
+                    feed(v, r->durations[i], r->values + i * r->channels, r->channels);
                 times[v][part][round] = now() - start;
             }
     }
@@ -149,17 +136,14 @@ static void time_ticks(const char *name, const char *weighting, const char *patt
     static double times[BOTH][CALLS];
     struct draws d = {7};
     int32_t values[PATTERN_CHANNELS_MAX];
-    uint8_t read[PATTERN_CHANNELS_MAX];
     int64_t *lent;
 
     take(pattern);
     lent = table();
     for (size_t i = 0; i < cells; i++)
         lent[i] = draw(&d, 100) < percent ? (int64_t)draw(&d, 2000001) - 1000000 : CELL_MARK;
-    for (size_t c = 0; c < channels; c++) {
+    for (size_t c = 0; c < channels; c++)
         values[c] = 7 * (int32_t)c + 1;
-        read[c] = 1;
-    }
     open_both(); /* the second tables are marks, as after every feed */
     for (int call = 0; call < CALLS; call++)
         for (int turn = 0; turn < BOTH; turn++) {
@@ -167,10 +151,9 @@ static void time_ticks(const char *name, const char *weighting, const char *patt
             double start;
 
             memcpy(first[v], lent, cells * sizeof *lent);
-            for (int i = 0; i < MONITOR_STATE_LENGTH; i++)
-                state[v][i] = i > PATTERN_CHANNELS_MAX;
+            memset(state[v], 0, sizeof state[v]);
             start = now();
-            feed(v, 1, values, read, channels);
+            feed(v, 1, values, channels);
             times[v][call] = now() - start;
         }
     tell(name, weighting, percent == 100 ? "full" : "a tenth", middle(times[OLD], CALLS), middle(times[NEW], CALLS));
@@ -178,20 +161,11 @@ static void time_ticks(const char *name, const char *weighting, const char *patt
     leave();
 }
 
-/* A state of 9 entries, as it was without flags, is too short with them. */
-static void look_for_flags(void)
-{
-    take(overshoot("margin", 4, 2));
-    old_has_flags = old_monitor_open(text, text_length, state[OLD], 9, first[OLD], cells, second[OLD], cells) == STATE_BROKEN;
-    leave();
-}
-
 int main(void)
 {
     struct record cruise = cruise_record(ENTRIES, 10), swing = swing_record(ENTRIES, 10), gears = gearbox_record(ENTRIES),
-                  sensors = sensors_record(ENTRIES), dropouts = dropout_record(ENTRIES);
+                  sensors = sensors_record(ENTRIES);
 
-    look_for_flags();
     for (int sum = 0; sum < 2; sum++) {
         const char *w = sum ? "sum" : "margin";
 
@@ -201,8 +175,6 @@ int main(void)
         time_record("RINGING", w, ringing(w, 8, 8, 4), &swing);
         time_record("gearbox, window 28", w, gearbox(w, 28), &gears);
         time_record("eight channels", w, eight_channels(w, 30, 15), &sensors);
-        if (old_has_flags)
-            time_record("eight channels with readings lost", w, eight_channels(w, 30, 15), &dropouts);
         for (unsigned percent = 100; percent > 0; percent = percent == 100 ? 10 : 0) {
             time_ticks("OVERSHOOT", w, overshoot(w, 60, 15), 2, percent);
             time_ticks("unbounded", w, unbounded(w, 2000), 2, percent);
@@ -214,6 +186,5 @@ int main(void)
     free_record(&swing);
     free_record(&gears);
     free_record(&sensors);
-    free_record(&dropouts);
     return 0;
 }

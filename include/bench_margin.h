@@ -10,8 +10,7 @@
  *     first = malloc(cells * sizeof *first);  second = ...      two tables of that many cells
  *     monitor_open(text, length, state, MONITOR_STATE_LENGTH, first, cells, second, cells);
  *     monitor_feed(text, length, state, MONITOR_STATE_LENGTH, first, cells, second, cells,
- *                  ticks, values, channels, read, channels, scores, ticks, lengths, ticks);
- *                                                               once for each piece as it arrives
+ *                  ticks, values, channels, scores, ticks, lengths, ticks);      once for each piece as it arrives
  *
  * The pattern text (docs/MANUAL.md has all of it)
  *
@@ -36,11 +35,6 @@
  *     `sum` a run is worth all distances added, once for each observation, and the best run is the one with the least score.
  *     Neighbouring ticks of a stay are one observation while the channels that its place tests keep their values; what other
  *     channels do makes no difference, and a stay without tests adds 0. How a record is cut into pieces makes none either.
- *   - A reading may be lost. Each call that takes values also takes, as its next slice `read`, as many flags in the same order: 0
- *     says that the channel was not read, any other number that it was. The value of a channel whose flag is 0 is 0. No run stays
- *     in a place during a tick in which a channel that the place tests was not read. A run may enter the place at the moment when
- *     that tick ends, and, if it is an end place, may end there. Places that test none of the lost channels take no notice. Where
- *     ticks are compared, two lost readings are equal, and a lost one differs from every value that was read.
  *   - Only runs whose length is in the window, from its low to its high, count for monitor_feed and record_best.
  *   - The host knows the weighting and the channels from the text's first line: no function tells them.
  *
@@ -57,13 +51,7 @@
  *     of the refusal says the first cause in the order that is given for the function. pattern_check, monitor_open and
  *     monitor_feed return that number, or 0 when done; run_price and record_best return it as `refusal`, beside zeros;
  *     pattern_cells returns 0 for a refused text, and pattern_check says its number.
- *   - The pattern is read anew from its text at each call.
- *
- * For hosts of an earlier version, which had no flags
- *   - monitor_feed, run_price and record_best have two parameters more. A linker does not see that a call lacks them, so every
- *     source that calls one of the three has to be changed and compiled anew with this header.
- *   - A state had 9 entries. A slice of 9 is refused with STATE_BROKEN now: where an array was declared with 9 entries, make it
- *     MONITOR_STATE_LENGTH. A monitor from before goes on once eight entries of 1 stand behind the 9; its tables are as they were. */
+ *   - The pattern is read anew from its text at each call. */
 #ifndef BENCH_MARGIN_H
 #define BENCH_MARGIN_H
 
@@ -100,7 +88,7 @@ enum {
 /* TICKS_MAX and PIECE_TICKS_MAX are unsigned, as durations are; VALUE_MAX, CELL_MAX and CELL_MARK are signed. */
 #define PATTERN_TEXT_MAX 8192                  /* bytes of a pattern text */
 #define PATTERN_CHANNELS_MAX 8                 /* channels of a pattern */
-#define MONITOR_STATE_LENGTH 17                /* entries of a monitor's state */
+#define MONITOR_STATE_LENGTH 9                 /* entries of a monitor's state */
 #define PIECE_TICKS_MAX UINT32_C(65535)        /* ticks of a piece that is fed; longer ones are fed in parts */
 #define TICKS_MAX UINT32_C(2147483647)         /* ticks of a record, and of all pieces that were fed */
 #define RECORD_PIECES_MAX 4096                 /* pieces of a record */
@@ -120,20 +108,19 @@ uint64_t pattern_cells(const uint8_t *text, size_t length);
 /* Opens a monitor for the pattern of this text: no ticks so far.
  *
  * `state` is the monitor's state, MONITOR_STATE_LENGTH entries: entry 0 holds the ticks so far, entries 1 to 8 the last
- * value of each channel, zeros before the first piece and in unused channels, and entries 9 to 16 whether that value was read,
- * 1 or 0, ones before the first piece and in unused channels. What it held before does not matter.
+ * value of each channel, zeros before the first piece and in unused channels. What it held before does not matter.
  * `first` and `second` are the monitor's tables, at least pattern_cells numbers each. What they held does not matter.
  * Further entries and cells are left as they are. State and first table belong together, and to this pattern: keep them as
  * they are between the calls. The cells needed of the second table are all CELL_MARK after each call that is done, and may hold
  * anything before the next: they only have to be there.
  *
- * Done: 0. Refused, in this order: 1 to 5 for the text; TABLE_TOO_SHORT; STATE_BROKEN, for a state of fewer than 17 entries. */
+ * Done: 0. Refused, in this order: 1 to 5 for the text; TABLE_TOO_SHORT; STATE_BROKEN, for a state of fewer than 9 entries. */
 uint32_t monitor_open(const uint8_t *text, size_t length, int64_t *state, size_t state_length, int64_t *first,
                       size_t first_length, int64_t *second, size_t second_length);
 
-/* Feeds a piece to an open monitor: for `duration` ticks, 1 to PIECE_TICKS_MAX, channel i had the value values[i], or was not
- * read, if read[i] is 0; there are as many values and as many flags as the pattern has channels. A piece that is as the one
- * before it goes on with it, so it makes no difference where longer ones are cut.
+/* Feeds a piece to an open monitor: for `duration` ticks, 1 to PIECE_TICKS_MAX, channel i had the value values[i]; there are
+ * as many values as the pattern has channels. A piece that is as the one before it goes on with it, so it makes no difference
+ * where longer ones are cut.
  *
  * For tick i of the piece, from 0, scores[i] and lengths[i] report the best run in the window that ends after that tick, at
  * the time state[0] + i + 1 with state[0] as it was before the call: its score (the greatest in `margin`, the least in
@@ -141,20 +128,18 @@ uint32_t monitor_open(const uint8_t *text, size_t length, int64_t *state, size_t
  * score 0, says that there is none. Places from `duration` on are left as they are.
  * The reports are so where monitor_open was done, and every call since had the text of the opening and found the state and
  * the first table as the call before it left them. The library keeps nothing, so it cannot notice another text.
- * The state and the first table are moved on. A call that is done leaves 0 or 1 in each of the state's eight flags; in one that
- * it finds, any number but 0 says read. A cell of the first table that no call wrote is taken as the worth it says; the
+ * The state and the first table are moved on. A cell of the first table that no call wrote is taken as the worth it says; the
  * order of the cells is, slowest first: length so far from 0 to the window's high, stage (0 just entered, 1 staying), place,
  * clock 0, clock 1 and on, each from 0 to its ceiling (document 01, "Monitor tables").
  *
  * Done: 0. Refused, in this order, in which the state comes before the tables: 1 to 5 for the text; STATE_BROKEN, for fewer
- * than 17 entries, ticks that are not 0 to TICKS_MAX, a value out of range, a value that is not 0 in an unused channel or in
- * one that was not read, an unused channel that was not read, or at 0 ticks a value that is not 0 or a channel that was not
- * read; TABLE_TOO_SHORT; RECORD_BROKEN, for the duration, the number of values or of flags, a value out of range, or one
- * that is not 0 and was not read; TOO_MANY_TICKS; CELL_BROKEN; REPORTS_TOO_SHORT. */
+ * than 9 entries, ticks that are not 0 to TICKS_MAX, a value out of range, a value that is not 0 in an unused channel, or any
+ * that is not 0 at 0 ticks; TABLE_TOO_SHORT; RECORD_BROKEN, for the duration, the number of values, or a value out of range;
+ * TOO_MANY_TICKS; CELL_BROKEN; REPORTS_TOO_SHORT. */
 uint32_t monitor_feed(const uint8_t *text, size_t length, int64_t *state, size_t state_length, int64_t *first,
                       size_t first_length, int64_t *second, size_t second_length, uint32_t duration,
-                      const int32_t *values, size_t values_length, const uint8_t *read, size_t read_length,
-                      int64_t *scores, size_t scores_length, uint32_t *lengths, size_t lengths_length);
+                      const int32_t *values, size_t values_length, int64_t *scores, size_t scores_length,
+                      uint32_t *lengths, size_t lengths_length);
 
 struct run_price {
     uint32_t refusal; /* 0, or the refusal's number */
@@ -162,19 +147,16 @@ struct run_price {
 };
 
 /* Prices a run in a record. The record has a piece for each duration, of at least 1 tick, up to RECORD_PIECES_MAX pieces
- * and TICKS_MAX ticks in all; its values stand piece by piece, and in a piece channel by channel, and its flags in the same
- * order, one for each value. The run begins at tick `begin` in a start place; step i stays stays[i] ticks, at least 1, and then
- * takes edge edges[i], counted from 0 as in the text; the last edge enters an end place. The pattern's window does not count.
- * Nothing lent is written.
+ * and TICKS_MAX ticks in all; its values stand piece by piece, and in a piece channel by channel. The run begins at tick
+ * `begin` in a start place; step i stays stays[i] ticks, at least 1, and then takes edge edges[i], counted from 0 as in
+ * the text; the last edge enters an end place. The pattern's window does not count. Nothing lent is written.
  *
- * Refused, in this order: 1 to 5 for the text; RECORD_BROKEN, also for another number of flags than of values, and for a value
- * that is not 0 and was not read; RUN_BROKEN; RUN_IMPOSSIBLE, also for an edge that the pattern lacks, a first edge out of no
- * start place, an edge that does not leave the place where the run is, or whose guards do not hold, a last edge that enters no
- * end place, a stay of 0 ticks, or a stay in a place during a tick in which a channel that the place tests was not read. */
+ * Refused, in this order: 1 to 5 for the text; RECORD_BROKEN; RUN_BROKEN; RUN_IMPOSSIBLE, also for an edge that the pattern lacks,
+ * a first edge out of no start place, an edge that does not leave the place where the run is, or whose guards do not hold, a
+ * last edge that enters no end place, or a stay of 0 ticks. */
 struct run_price run_price(const uint8_t *text, size_t length, const uint32_t *durations, size_t durations_length,
-                           const int32_t *values, size_t values_length, const uint8_t *read, size_t read_length,
-                           uint32_t begin, const uint32_t *edges, size_t edges_length, const uint32_t *stays,
-                           size_t stays_length);
+                           const int32_t *values, size_t values_length, uint32_t begin, const uint32_t *edges,
+                           size_t edges_length, const uint32_t *stays, size_t stays_length);
 
 struct record_best {
     uint32_t refusal; /* 0, or the refusal's number */
@@ -188,10 +170,10 @@ struct record_best {
  * tables are as for monitor_open, and are left as opening a monitor and feeding it the whole record leaves them; there is no
  * state with them, so a monitor that is to go on is opened and fed instead. A record without pieces has no run.
  *
- * Refused, in this order: 1 to 5 for the text; RECORD_BROKEN, as for run_price; TABLE_TOO_SHORT. */
+ * Refused, in this order: 1 to 5 for the text; RECORD_BROKEN; TABLE_TOO_SHORT. */
 struct record_best record_best(const uint8_t *text, size_t length, const uint32_t *durations, size_t durations_length,
-                               const int32_t *values, size_t values_length, const uint8_t *read, size_t read_length,
-                               int64_t *first, size_t first_length, int64_t *second, size_t second_length);
+                               const int32_t *values, size_t values_length, int64_t *first, size_t first_length,
+                               int64_t *second, size_t second_length);
 
 #ifdef __cplusplus
 }

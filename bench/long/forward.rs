@@ -61,11 +61,10 @@ fn main() {
             _ => edges.push(Edge { from: number(words[1]), to: number(words[2]), guards: bounded, resets }),
         }
     }
-    // a reading that is lost, `?`, is none
-    let mut ticks: Vec<Vec<Option<i64>>> = Vec::new();
+    let mut ticks: Vec<Vec<i64>> = Vec::new();
     for line in read("record.txt").lines() {
         let words: Vec<&str> = line[1..line.len() - 1].split(' ').collect();
-        let values: Vec<Option<i64>> = words[2..].iter().map(|word| (*word != "?").then(|| number(word))).collect();
+        let values: Vec<i64> = words[2..].iter().map(|word| number(word)).collect();
         ticks.extend((0..number::<usize>(words[1])).map(|_| values.clone()));
     }
 
@@ -106,18 +105,18 @@ fn main() {
             *cell = Some(worth);
         }
     };
-    // what each place adds, or takes the least with, at each tick; none if a reading that it tests is lost
-    let price = |place: usize, values: &[Option<i64>]| -> Option<i64> {
+    // what each place adds, or takes the least with, at each tick
+    let price = |place: usize, values: &[i64]| -> i64 {
         let distance = |(sign, channel, bounds): &Bounded| {
-            let over = |bound: i64| values[*channel].map(|value| value - bound);
-            Some(match sign.as_str() {
-                ">" | ">=" => over(bounds[0])?,
-                "in" => over(bounds[0])?.min(-over(bounds[1])?),
-                _ => -over(bounds[0])?,
-            })
+            let over = |bound: i64| values[*channel] - bound;
+            match sign.as_str() {
+                ">" | ">=" => over(bounds[0]),
+                "in" => over(bounds[0]).min(-over(bounds[1])),
+                _ => -over(bounds[0]),
+            }
         };
-        let distances: Vec<i64> = places[place].1.iter().map(distance).collect::<Option<_>>()?;
-        Some(if sum { distances.iter().sum() } else { distances.into_iter().min().unwrap_or(FREE) })
+        let distances = places[place].1.iter().map(distance);
+        if sum { distances.sum() } else { distances.min().unwrap_or(FREE) }
     };
     // whether each place sees at each tick what it saw the tick before, in the channels that it tests
     let same = |tick: usize, tests: &[Bounded]| tick > 0 && tests.iter().all(|test| ticks[tick][test.1] == ticks[tick - 1][test.1]);
@@ -133,13 +132,12 @@ fn main() {
             }
         }
         for tick in begin..ticks.len().min(begin + high) {
-            let prices: Vec<Option<i64>> = (0..places.len()).map(|place| price(place, &ticks[tick])).collect();
+            let prices: Vec<i64> = (0..places.len()).map(|place| price(place, &ticks[tick])).collect();
             let mut next_entered = vec![None; states];
             let mut next_staying = vec![None; states];
             let mut done = None;
             for state in 0..states {
-                // nobody stays there in this tick
-                let Some(price) = prices[place_of[state]] else { continue };
+                let price = prices[place_of[state]];
                 let mut now = None;
                 if let Some(worth) = entered[state] {
                     keep(&mut now, if sum { worth + price } else { worth.min(price) });

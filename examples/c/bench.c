@@ -4,8 +4,8 @@
  *     bench [-c CELLS] PATTERN [RECORD]
  *
  * PATTERN is a pattern file. RECORD is a file of lines `(piece 2 10)`, a duration in ticks and then a value for each
- * channel, or `?` where the channel was not read; without it, or as `-`, the lines come from standard input. -c sets how many
- * cells each of the monitor's two tables gets; without it they get what the pattern needs.
+ * channel; without it, or as `-`, the lines come from standard input. -c sets how many cells each of the monitor's two
+ * tables gets; without it they get what the pattern needs.
  *
  * A refusal prints one line, as `refused 8`, and ends the program with status 1. Lines before it stay printed: a record
  * that is still arriving cannot be judged whole. What goes wrong outside of the monitor (no memory, a file that opens and
@@ -27,7 +27,6 @@
 struct piece {
     int64_t duration;
     int32_t values[PATTERN_CHANNELS_MAX + 1]; /* one more, so that a value too many is still counted */
-    uint8_t read[PATTERN_CHANNELS_MAX + 1];   /* 0 beside a value that is lost */
     size_t count;
     int out_of_range; /* a value that no 32 bits hold */
 };
@@ -102,28 +101,24 @@ static int integer(const char **at, int64_t *value)
     return 1;
 }
 
-/* Reads a line `(piece 2 10 ? -3)` that ends in a line feed; 0 if its form is broken. */
+/* Reads a line `(piece 2 10 -3)` that ends in a line feed; 0 if its form is broken. */
 static int read_piece(const char *line, size_t length, struct piece *p)
 {
     const char *at = line;
+    int64_t value;
 
     memset(p, 0, sizeof *p);
     if (strlen(line) != length || !word(&at, "(piece ") || !number(&at, &p->duration))
         return 0;
     while (word(&at, " ")) {
-        int64_t value = 0;
-        int missing = word(&at, "?");
-
-        if (!missing && !integer(&at, &value))
+        if (!integer(&at, &value))
             return 0;
         if (value < -INT64_C(2147483648) || value > INT64_C(2147483647)) {
             p->out_of_range = 1;
             value = 0;
         }
-        if (p->count < sizeof p->values / sizeof *p->values) {
-            p->values[p->count] = (int32_t)value;
-            p->read[p->count++] = !missing;
-        }
+        if (p->count < sizeof p->values / sizeof *p->values)
+            p->values[p->count++] = (int32_t)value;
     }
     return p->count != 0 && word(&at, ")\n") && *at == '\0';
 }
@@ -160,8 +155,8 @@ static uint32_t feed(struct bench *b, const struct piece *p)
         uint32_t part = left > PIECE_TICKS_MAX ? PIECE_TICKS_MAX : (uint32_t)left;
         int64_t ticks = b->state[0];
         uint32_t refusal = monitor_feed(b->text, b->length, b->state, MONITOR_STATE_LENGTH, b->first, b->cells,
-                                        b->second, b->cells, part, p->values, p->count, p->read, p->count, b->scores,
-                                        part, b->lengths, part);
+                                        b->second, b->cells, part, p->values, p->count, b->scores, part, b->lengths,
+                                        part);
 
         if (refusal != CALL_DONE)
             return refusal;

@@ -24,7 +24,7 @@ NUMBER(CELL_BROKEN, 14);           /* a needed cell neither the mark nor within 
 /* sizes and bounds */
 NUMBER(PATTERN_TEXT_MAX, 8192);
 NUMBER(PATTERN_CHANNELS_MAX, 8);
-NUMBER(MONITOR_STATE_LENGTH, 1 + 8 + 8); /* ticks so far, the last values, and whether each was read */
+NUMBER(MONITOR_STATE_LENGTH, 1 + 8); /* ticks so far and the last values */
 NUMBER(PIECE_TICKS_MAX, 65535);
 NUMBER(TICKS_MAX, 2147483647);
 NUMBER(RECORD_PIECES_MAX, 4096);

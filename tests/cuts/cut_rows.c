@@ -27,7 +27,6 @@ enum {
     LINE_LEFT_OUT,  /* a call's last end has no line */
     BEGIN_OFF,      /* the best's begin */
     LATER_END,      /* of equal scores the latest end is the best */
-    LOST_IS_ZERO,   /* a lost reading is fed as a 0 that was read */
     /* in what a refused feed leaves, */
     ANSWER_OTHER,
     STATE_ALTERED,
@@ -42,27 +41,15 @@ enum {
     SECOND_KEPT, /* a cell of the second table stays as it was */
     SCORE_ALONE, /* a score where there is no run */
 };
-#define WRONG 17
+#define WRONG 16
 
 /* feeds that must be refused */
-enum {
-    DURATION_0,
-    DURATION_OVER,
-    VALUES_COUNT,
-    VALUE_RANGE,
-    FLAGS_COUNT,
-    VALUE_LOST,
-    SCORES_SHORT,
-    LENGTHS_SHORT,
-    PAST_LIMIT,
-    NONE
-};
+enum { DURATION_0, DURATION_OVER, VALUES_COUNT, VALUE_RANGE, SCORES_SHORT, LENGTHS_SHORT, PAST_LIMIT, NONE };
 
 struct piece {
     uint32_t duration;
     int32_t values[PATTERN_CHANNELS_MAX + 1]; /* one more, for a feed with a value too many */
-    uint8_t read[PATTERN_CHANNELS_MAX + 1];   /* 0 beside a value that is lost, and else 1 */
-    size_t count, read_count;
+    size_t count;
 };
 
 struct reports {
@@ -87,9 +74,9 @@ struct cuts {
     uint32_t end, begin;
     int64_t score;
     int wrong;
-    /* calls that end inside a piece, of over 64 ticks, of over high + 1 ticks, whose later reports repeat, with a reading
-     * lost; then the refused feeds of each kind */
-    unsigned long counts[4 + NONE];
+    /* calls that end inside a piece, of over 64 ticks, of over high + 1 ticks, whose later reports repeat; then the
+     * refused feeds of each kind */
+    unsigned long counts[3 + NONE];
 };
 
 _Noreturn static void fault(const char *what, ...)
@@ -198,17 +185,12 @@ static void check_places(const struct reports *r, size_t from)
 static uint32_t call(struct cuts *c, const struct piece *p, struct reports *r)
 {
     int32_t *values = block(p->count * sizeof *values);
-    uint8_t *read = block(p->read_count);
     uint32_t answer;
 
     memcpy(values, p->values, p->count * sizeof *values);
-    for (size_t i = 0; i < p->read_count; i++) /* any number but 0 says read */
-        read[i] = (uint8_t)(p->read[i] || (c->wrong == LOST_IS_ZERO && p->values[i] == 0) ? 1 + below(c, 255) : 0);
     answer = monitor_feed(c->text, c->length, c->state, MONITOR_STATE_LENGTH, c->first, c->cells, c->second, c->cells,
-                          p->duration, values, p->count, read, p->read_count, r->scores, r->score_places, r->lengths,
-                          r->length_places);
+                          p->duration, values, p->count, r->scores, r->score_places, r->lengths, r->length_places);
     free(values);
-    free(read);
     return answer;
 }
 
@@ -274,7 +256,7 @@ static int32_t value_out_of_range(struct cuts *c)
     return values[below(c, 4)];
 }
 
-/* Another count than the pattern's channels; those added have values in range and were read. */
+/* Another count than the pattern's channels; those added have values in range. */
 static size_t count_other(struct cuts *c)
 {
     size_t count = below(c, PATTERN_CHANNELS_MAX + 2);
@@ -293,7 +275,7 @@ static uint32_t duration_past_limit(struct cuts *c)
 static void refuse_kind(struct cuts *c, const struct piece *next_call, int kind)
 {
     struct piece p = *next_call;
-    size_t places = below(c, REFUSED_PLACES + 1), lost;
+    size_t places = below(c, REFUSED_PLACES + 1);
 
     if (p.duration > REFUSED_PLACES)
         p.duration = REFUSED_PLACES;
@@ -313,28 +295,18 @@ static void refuse_kind(struct cuts *c, const struct piece *next_call, int kind)
             p.count = count_other(c);
         if (kind == VALUE_RANGE)
             p.values[below(c, (uint32_t)p.count)] = value_out_of_range(c);
-        if (kind == FLAGS_COUNT)
-            p.read_count = count_other(c);
-        if (kind == VALUE_LOST) {
-            lost = below(c, (uint32_t)p.count);
-            p.values[lost] = below(c, 2) ? 1 : -VALUE_MAX;
-            p.read[lost] = 0;
-        }
         refuse(c, &p, places, places, RECORD_BROKEN);
     }
 }
 
 /* ---- accepted feeds */
 
-/* Ticks so far, the last values and whether they were read; in unused channels and before the first piece zeros that were. */
+/* Ticks so far, the last values, zeros in unused channels. */
 static void check_state(const struct cuts *c, const struct piece *last)
 {
-    for (size_t i = 0; i < PATTERN_CHANNELS_MAX; i++) {
+    for (size_t i = 0; i < PATTERN_CHANNELS_MAX; i++)
         if (c->state[1 + i] != (i < c->channels ? last->values[i] : 0))
             fault("the state's value of channel %zu is wrong", i);
-        if (c->wrong != LOST_IS_ZERO && c->state[9 + i] != (i >= last->count || last->read[i]))
-            fault("the state's flag of channel %zu is wrong", i);
-    }
     if (c->state[0] != c->ticks)
         fault("the state has %" PRId64 " ticks, not %" PRIu32, c->state[0], c->ticks);
 }
@@ -441,14 +413,13 @@ static void show_last(const struct cuts *c)
 
 /* ---- the record */
 
-static void count(struct cuts *c, const struct piece *p, uint32_t ticks, uint32_t left, int kind)
+static void count(struct cuts *c, uint32_t ticks, uint32_t left, int kind)
 {
     c->counts[0] += ticks < left;
     c->counts[1] += ticks > 64;
     c->counts[2] += ticks > c->high + 1;
-    c->counts[3] += ticks > 0 && memchr(p->read, 0, p->count) != NULL;
     if (kind != NONE)
-        c->counts[4 + kind]++;
+        c->counts[3 + kind]++;
 }
 
 /* The next call, with room in its report slices for up to 3 places more. */
@@ -470,7 +441,7 @@ static void feed_cut(struct cuts *c, const struct piece *whole, uint32_t ticks, 
     struct piece p = *whole;
     int kind = refused_kind(c);
 
-    count(c, whole, ticks, left, kind);
+    count(c, ticks, left, kind);
     if (below(c, 4) == 0)
         fill(c, c->second, c->cells);
     p.duration = ticks;
@@ -499,7 +470,7 @@ static void refuse_last(struct cuts *c, const struct piece *last)
 {
     int kind = c->ticks == TICKS_MAX ? PAST_LIMIT : refused_kind(c);
 
-    count(c, last, 0, 0, kind);
+    count(c, 0, 0, kind);
     if (kind != NONE)
         refuse_kind(c, last, kind);
 }
@@ -529,23 +500,16 @@ static int64_t number(const char **at, int64_t least, int64_t most)
     return value;
 }
 
-/* Moves past a line `(piece 2 10 ? -3)`, with a value for each channel, or `?` for one that is lost. */
+/* Moves past a line `(piece 2 10 -3)`, with a value for each channel. */
 static void read_piece(const struct cuts *c, const char **at, struct piece *p)
 {
     memset(p, 0, sizeof *p);
-    memset(p->read, 1, sizeof p->read);
     word(at, "(piece ");
     p->duration = (uint32_t)number(at, 1, TICKS_MAX);
     for (p->count = 0; p->count < c->channels; p->count++) {
         word(at, " ");
-        if (**at == '?') {
-            p->read[p->count] = 0;
-            ++*at;
-        } else {
-            p->values[p->count] = (int32_t)number(at, -VALUE_MAX, VALUE_MAX);
-        }
+        p->values[p->count] = (int32_t)number(at, -VALUE_MAX, VALUE_MAX);
     }
-    p->read_count = p->count;
     word(at, ")\n");
 }
 

@@ -1,7 +1,7 @@
 /* calls.h: the C functions, called on lent slices (lend.h), each call checked by value against what the header promises.
  *
  * The refusal must be the first cause in document 01's order, which is worked out here anew. At a refusal nothing lent may
- * have changed, and when done nothing past the needed cells, past the duration or past entry 16 of the state; what is only
+ * have changed, and when done nothing past the needed cells, past the duration or past entry 8 of the state; what is only
  * read may never change. An opening leaves the marks and the empty runs; a feed leaves in every slice what the plain monitor
  * of bench/ leaves there, whatever the first table held. */
 #ifndef CALLS_H
@@ -25,10 +25,9 @@ static const char *const names[] = {"pattern_check", "pattern_cells", "monitor_o
                                     "monitor_feed",  "run_price",     "record_best"};
 
 /* what stands for a slice that is too short or too long: alone, or both of a kind with the same length */
-enum { STATE, FIRST, SECOND, TABLES, VALUES, FLAGS, SCORES, LENGTHS, REPORTS, SLICES };
+enum { STATE, FIRST, SECOND, TABLES, VALUES, SCORES, LENGTHS, REPORTS, SLICES };
 
-static const char *const slice_names[] = {"state", "first",  "second",  "tables", "values",
-                                          "flags", "scores", "lengths", "reports"};
+static const char *const slice_names[] = {"state", "first", "second", "tables", "values", "scores", "lengths", "reports"};
 
 enum { EMPTY, ONE_SHORT, ONE_LONG, SHAPES };
 
@@ -45,36 +44,13 @@ enum { STILL, UNSEEN, NEW_TO_ALL, NEW_TO_SOME, MOVES };
 
 static const char *const move_names[] = {"none", "unseen", "new to all", "new to some"};
 
-/* what lost readings do: a state that is refused for one of them alone; a piece that is; numbers that say read, in feeds that are
- * done; and in feeds that are compared, places that hold runs: closed ones just entered or stayed in, an open one beside a loss,
- * and in sum a stay whose channel is read again, with values that do not tell it */
-enum {
-    STATE_OF_9,
-    STATE_VALUE,
-    STATE_UNUSED,
-    STATE_AT_0_TICKS,
-    STATE_NUMBER,
-    PIECE_VALUE,
-    PIECE_NUMBER,
-    CLOSED_ENTERED,
-    CLOSED_STAYED,
-    OPEN_BESIDE,
-    READ_AGAIN,
-    LOSSES
-};
-
-static const char *const loss_names[] = {"state of 9",       "state, a value", "state, unused",   "state, at 0 ticks",
-                                         "state, a number",  "piece, a value", "piece, a number", "closed when entered",
-                                         "closed in a stay", "open beside",    "read again"};
-
 static uint64_t calls, compared, seen[FUNCTIONS][16], shaped[FUNCTIONS][SLICES][SHAPES];
 static uint64_t measured[2][SIDES]; /* by bands, in feeds that are compared: in margin, in sum */
 static uint64_t moved[MOVES];       /* in sum, with two or more channels, in feeds that are compared */
-static uint64_t lost[LOSSES];
 static uint64_t round_seed;
 static int failures;
 
-static struct lent text, state, first, second, values, flags, scores, lengths, durations, edges, stays;
+static struct lent text, state, first, second, values, scores, lengths, durations, edges, stays;
 
 static void fail(const char *what)
 {
@@ -151,38 +127,23 @@ static uint32_t wild32(void)
     return once(3) ? (uint32_t)draw() : odd[draw() % (sizeof odd / sizeof *odd)];
 }
 
-/* A number that says read, in a state: 1, or any but 0. */
-static int64_t wild_flag(void)
-{
-    int64_t flag = once(2) ? 1 : once(2) ? between(2, 255) : wild64();
-
-    return flag == 0 ? 1000 : flag;
-}
-
-/* A state: one that a monitor may be in, the same with one entry changed or one flag that says lost, or anything. */
+/* A state: one that a monitor may be in, the same with one entry changed, or anything. */
 static void lend_state(int channels)
 {
-    size_t few = (size_t)(once(4) ? 0 : once(3) ? 16 : once(2) ? 9 : between(1, 15));
-    size_t count = once(6) ? few : once(2) ? 17 : (size_t)between(17, 20);
+    size_t count = (size_t)(once(24) ? 0 : once(24) ? 8 : once(24) ? between(1, 7) : once(2) ? 9 : between(9, 12));
     int64_t *at = lend(&state, count, where());
-    int zero = once(4), wild = once(10), losses = once(2);
+    int zero = once(4), wild = once(10);
 
     for (size_t i = 0; i < count; i++) {
         if (i == 0)
             at[i] = zero ? 0 : once(5) ? (int64_t)TICKS_MAX - between(0, once(2) ? 30 : 70000) : between(1, 1000);
-        else if (i <= 8)
-            at[i] = zero || i > (size_t)channels ? 0 : between(-30, 30);
         else
-            at[i] = wild_flag();
-        if (i > 8 && i <= 8 + (size_t)channels && losses && !zero && once(2))
-            at[i] = at[i - 8] = 0;
-        if (i > 16 || wild)
+            at[i] = zero || i > (size_t)channels ? 0 : between(-30, 30);
+        if (i > 8 || wild)
             at[i] = wild64();
     }
     if (count != 0 && once(8))
         at[draw() % count] = wild64();
-    if (count > 16 && once(8))
-        at[9 + draw() % 8] = 0;
     lend_keep(&state);
 }
 
@@ -249,27 +210,6 @@ static void lend_values(size_t count)
     lend_keep(&values);
 }
 
-/* Flags for the values that are lent: any number that says read, and in half of the calls some that say lost, beside a 0. Now and
- * then one says so beside any value. */
-static void lend_flags(size_t count)
-{
-    uint8_t *at = lend(&flags, count, where());
-    int32_t *value = values.at;
-    int losses = once(2);
-
-    for (size_t i = 0; i < count; i++) {
-        at[i] = (uint8_t)(once(2) ? 1 : once(2) ? 255 : between(1, 255));
-        if (losses && i < values.count && once(3)) {
-            at[i] = 0;
-            value[i] = 0;
-        }
-    }
-    if (count != 0 && once(20))
-        at[draw() % count] = 0;
-    lend_keep(&flags);
-    lend_keep(&values);
-}
-
 /* Which channels move, a bit for each: none, one, or any. */
 static uint64_t moving(size_t channels)
 {
@@ -278,25 +218,18 @@ static uint64_t moving(size_t channels)
     return kind == 0 || channels == 0 ? 0 : kind == 1 ? draw() : UINT64_C(1) << draw() % channels;
 }
 
-/* Puts the state's last sample into the piece, but for the channels that move. One that was lost may come back as a 0. */
+/* Puts the state's last values into the piece, but for the channels that move. */
 static void keep_still(void)
 {
     size_t count = values.count < PATTERN_CHANNELS_MAX ? values.count : PATTERN_CHANNELS_MAX;
     const int64_t *last = state.at;
     uint64_t moves = moving(count);
     int32_t *at = values.at;
-    uint8_t *flag = flags.at;
 
-    for (size_t i = 0; i < count && i < flags.count && i + 9 < state.count; i++) {
-        int was_lost = last[9 + i] == 0, moves_now = moves >> i & 1;
-
-        if ((!moves_now || (was_lost && once(2))) && in_range(last[1 + i])) {
+    for (size_t i = 0; i < count && i + 1 < state.count; i++)
+        if (!(moves >> i & 1) && in_range(last[1 + i]))
             at[i] = (int32_t)last[1 + i];
-            flag[i] = was_lost && !moves_now ? 0 : flag[i] == 0 ? 2 : flag[i];
-        }
-    }
     lend_keep(&values);
-    lend_keep(&flags);
 }
 
 /* Report slices with anything in them. */
@@ -326,7 +259,6 @@ static void lend_record(int channels, int calm)
         at[draw() % pieces] = once(3) ? 0 : UINT32_C(2147483648) + (uint32_t)between(0, 9);
     lend_keep(&durations);
     lend_values(count_values(count));
-    lend_flags(count_values(values.count));
 }
 
 /* ---- document 01's causes, in its order */
@@ -339,50 +271,15 @@ struct known {
 
 static struct plain_pattern plain; /* the pattern of the text that is lent, if it is accepted */
 
-/* The faults of a state that is long enough, a bit for each: those of lost readings by their names, and 1 for all others. */
-static unsigned state_faults(int channels)
-{
-    const int64_t *at = state.at;
-    unsigned faults = at[0] < 0 || at[0] > TICKS_MAX;
-
-    for (int i = 1; i <= PATTERN_CHANNELS_MAX; i++) {
-        int unused = i > channels, was_lost = at[8 + i] == 0;
-
-        faults |= at[0] == 0 || unused ? at[i] != 0 : !in_range(at[i]);
-        if (was_lost && unused)
-            faults |= 1u << STATE_UNUSED;
-        else if (was_lost && at[0] == 0)
-            faults |= 1u << STATE_AT_0_TICKS;
-        else if (was_lost && at[i] != 0)
-            faults |= 1u << STATE_VALUE;
-    }
-    return faults;
-}
-
 static uint32_t state_cause(int channels)
 {
-    unsigned faults;
+    const int64_t *at = state.at;
 
-    if (state.count < MONITOR_STATE_LENGTH) {
-        shape(FEED, STATE, state.count, MONITOR_STATE_LENGTH);
-        lost[STATE_OF_9] += state.count == 9;
+    if (state.count < MONITOR_STATE_LENGTH || at[0] < 0 || at[0] > TICKS_MAX)
         return STATE_BROKEN;
-    }
-    faults = state_faults(channels);
-    for (int n = STATE_VALUE; n <= STATE_AT_0_TICKS; n++)
-        lost[n] += faults == 1u << n;
-    return faults != 0 ? STATE_BROKEN : 0;
-}
-
-/* Is one of the values lost and not 0? */
-static int lost_value(void)
-{
-    const int32_t *value = values.at;
-    const uint8_t *flag = flags.at;
-
-    for (size_t i = 0; i < values.count; i++)
-        if (flag[i] == 0 && value[i] != 0)
-            return 1;
+    for (int i = 1; i <= PATTERN_CHANNELS_MAX; i++)
+        if (at[0] == 0 || i > channels ? at[i] != 0 : !in_range(at[i]))
+            return STATE_BROKEN;
     return 0;
 }
 
@@ -405,6 +302,8 @@ static uint32_t feed_cause(const struct known *k, uint32_t duration)
     const int32_t *value = values.at;
     uint32_t cause = k->refusal ? k->refusal : state_cause(k->channels);
 
+    if (cause == STATE_BROKEN && state.count < MONITOR_STATE_LENGTH)
+        shape(FEED, STATE, state.count, MONITOR_STATE_LENGTH);
     if (cause == 0)
         cause = tables_counted(FEED, table_cause(k->cells), k->cells);
     if (cause != 0)
@@ -418,14 +317,6 @@ static uint32_t feed_cause(const struct known *k, uint32_t duration)
     for (size_t i = 0; i < values.count; i++)
         if (!in_range(value[i]))
             return RECORD_BROKEN;
-    if (flags.count != (size_t)k->channels) {
-        shape(FEED, FLAGS, flags.count, (uint64_t)k->channels);
-        return RECORD_BROKEN;
-    }
-    if (lost_value()) {
-        lost[PIECE_VALUE]++;
-        return RECORD_BROKEN;
-    }
     if (ticks[0] + duration > TICKS_MAX)
         return TOO_MANY_TICKS;
     for (uint64_t i = 0; i < k->cells; i++)
@@ -457,17 +348,13 @@ static uint32_t record_cause(int function, int channels, uint64_t *ticks)
     for (size_t i = 0; i < values.count; i++)
         if (!in_range(value[i]))
             return RECORD_BROKEN;
-    if (flags.count != values.count) {
-        shape(function, FLAGS, flags.count, values.count);
-        return RECORD_BROKEN;
-    }
-    return lost_value() ? RECORD_BROKEN : 0;
+    return 0;
 }
 
 /* ---- a library that errs in one way, if `wrong` is not 0: the checks below must notice it */
 
-#define WRONG 29
-#define WRONG_FOR_SCORER 30 /* an error that the second scorer's answers must show */
+#define WRONG 23
+#define WRONG_FOR_SCORER 24 /* an error that the second scorer's answers must show */
 
 static int wrong;
 static uint64_t needed; /* cells of the pattern */
@@ -539,17 +426,6 @@ static const uint8_t *see_all(size_t *length)
     return other;
 }
 
-/* The lent flags, or with the error N as many that all say read: a lost reading is taken for a 0. */
-static const uint8_t *flags_but(int n)
-{
-    static uint8_t all[STEPS * PATTERN_CHANNELS_MAX + 40];
-
-    if (wrong != n || flags.count != values.count || lost_value())
-        return flags.at;
-    memset(all, 1, sizeof all);
-    return all;
-}
-
 static uint32_t check_lent(void)
 {
     uint32_t r = twisted(pattern_check(text.at, text.count));
@@ -584,29 +460,16 @@ static uint32_t feed_lent(uint32_t duration)
     const uint8_t *bytes = wrong == 20   ? low_alone(&length) /* a band's high without a say */
                            : wrong == 22 ? see_all(&length)   /* a twitch that counts where no test sees it */
                                          : text.at;
-    int64_t *last_flags = (int64_t *)state.at + 9;
-    uint32_t r;
+    uint32_t r = twisted(monitor_feed(bytes, length, state.at, state.count, first.at, first.count, second.at, second.count,
+                                      duration, values.at, values.count, scores.at, scores.count, lengths.at,
+                                      lengths.count));
 
-    if (wrong == 25 && needed != 0 && state.count > 16 && state_faults(plain.channels) == 0)
-        for (int i = 0; i < PATTERN_CHANNELS_MAX; i++)
-            last_flags[i] = 1; /* what was lost last is taken for a 0 */
-    r = twisted(monitor_feed(bytes, length, state.at, state.count, first.at, first.count, second.at, second.count, duration,
-                             values.at, values.count, flags_but(24), flags.count, scores.at, scores.count, lengths.at,
-                             lengths.count));
-    if (wrong == 25 && r != 0 && state.count > 16)
-        memcpy(last_flags, state.before + 9 * 8, 8 * 8);
-    for (int i = 0; wrong == 24 && r == 0 && i < plain.channels; i++)
-        last_flags[i] = ((const uint8_t *)flags.at)[i] != 0; /* so that the state does not tell it */
-    if (wrong == 26 && r == 0)
-        memcpy(last_flags, state.before + 9 * 8, 8 * 8); /* the flags left as they were */
-    if (wrong == 27 && flags.count != 0)
-        ((uint8_t *)flags.at)[0] ^= 2; /* a slice that is only read */
     if (wrong == 3 && r != 0 && state.count != 0)
         ((int64_t *)state.at)[0] ^= 1; /* the state written at a refusal */
     if (wrong == 4 && r == 0)
         memcpy(state.at, state.before, 8); /* the ticks left as they were */
-    if (wrong == 5 && r == 0 && state.count > 17)
-        ((int64_t *)state.at)[17] ^= 1; /* a further entry */
+    if (wrong == 5 && r == 0 && state.count > 9)
+        ((int64_t *)state.at)[9] ^= 1; /* a further entry */
     if (wrong == 6 && r == 0 && scores.count > duration)
         ((int64_t *)scores.at)[duration] ^= 1; /* a report past the duration */
     if (wrong == 7 && r == 0)
@@ -628,8 +491,8 @@ static struct run_price price_lent(uint32_t begin)
 {
     size_t length = text.count;
     const uint8_t *bytes = wrong == 21 ? low_alone(&length) : wrong == 23 ? see_all(&length) : text.at; /* both in a price */
-    struct run_price a = run_price(bytes, length, durations.at, durations.count, values.at, values.count, flags_but(28),
-                                   flags.count, begin, edges.at, edges.count, stays.at, stays.count);
+    struct run_price a = run_price(bytes, length, durations.at, durations.count, values.at, values.count, begin, edges.at,
+                                   edges.count, stays.at, stays.count);
 
     a.refusal = twisted(a.refusal);
     if (wrong == 11 && a.refusal == 0)
@@ -640,7 +503,7 @@ static struct run_price price_lent(uint32_t begin)
 static struct record_best best_lent(void)
 {
     struct record_best a = record_best(text.at, text.count, durations.at, durations.count, values.at, values.count,
-                                       flags_but(29), flags.count, first.at, first.count, second.at, second.count);
+                                       first.at, first.count, second.at, second.count);
 
     a.refusal = twisted(a.refusal);
     if (wrong == 12 && a.found)
@@ -695,22 +558,22 @@ static uint32_t call_open(const struct known *k)
         expect(lend_same(&state, 0) && lend_same(&first, 0) && lend_same(&second, 0), "a refused opening altered something");
         return refusal;
     }
-    expect(lend_same(&state, 17) && lend_same(&first, k->cells) && lend_same(&second, k->cells),
+    expect(lend_same(&state, 9) && lend_same(&first, k->cells) && lend_same(&second, k->cells),
            "an opening altered what lies further");
     for (int i = 0; i < MONITOR_STATE_LENGTH; i++)
-        fine &= s[i] == (i > PATTERN_CHANNELS_MAX);
+        fine &= s[i] == 0;
     /* length 0, just entered, all clocks 0: the first cell of each place's block */
     for (uint64_t i = 0; i < k->cells; i++) {
         int empty_run = i < (uint64_t)plain.places * plain.block && i % plain.block == 0 && plain.place[i / plain.block].start;
 
         fine &= u[i] == CELL_MARK && f[i] == (!empty_run ? CELL_MARK : plain.sum ? 0 : SCORE_WITHOUT_TESTS);
     }
-    expect(fine, "after an opening: no ticks, zeros that were read, marks, and the empty runs");
+    expect(fine, "after an opening: no ticks, zeros, marks, and the empty runs");
     return 0;
 }
 
 /* The same feed by the plain monitor, on copies of the slices. */
-static int64_t plain_state[24], plain_first[CELLS + 10], plain_second[CELLS + 10], plain_scores[LONG + 10];
+static int64_t plain_state[16], plain_first[CELLS + 10], plain_second[CELLS + 10], plain_scores[LONG + 10];
 static uint32_t plain_lengths[LONG + 10];
 
 static uint32_t feed_plain(uint32_t duration)
@@ -721,8 +584,7 @@ static uint32_t feed_plain(uint32_t duration)
     memcpy(plain_scores, scores.at, scores.count * sizeof *plain_scores);
     memcpy(plain_lengths, lengths.at, lengths.count * sizeof *plain_lengths);
     return plain_feed_gcc(&plain, plain_state, state.count, plain_first, first.count, plain_second, second.count, duration,
-                          values.at, values.count, flags.at, flags.count, plain_scores, scores.count, plain_lengths,
-                          lengths.count);
+                          values.at, values.count, plain_scores, scores.count, plain_lengths, lengths.count);
 }
 
 static int alike(const struct lent *l, const void *other)
@@ -734,14 +596,13 @@ static int alike(const struct lent *l, const void *other)
 static void count_bands(void)
 {
     const int32_t *value = values.at;
-    const uint8_t *flag = flags.at;
 
     for (int q = 0; q < plain.places; q++)
         for (int i = 0; i < plain.place[q].tests; i++) {
             const struct plain_test *t = &plain.place[q].test[i];
             int64_t v = value[t->channel];
 
-            if (t->low == -FAR || t->high == FAR || flag[t->channel] == 0)
+            if (t->low == -FAR || t->high == FAR)
                 continue;
             measured[plain.sum][v < t->low          ? BELOW
                                 : v > t->high       ? ABOVE
@@ -752,10 +613,10 @@ static void count_bands(void)
         }
 }
 
-/* Are there runs that have just entered a place (stage 0) or stay in it (1) and can go on, before the call? */
-static int runs_in(int stage, int place)
+/* Are there runs that stay in a place and can go on, before the call? */
+static int stayed_in(int place)
 {
-    const int64_t *block = (const int64_t *)first.before + (size_t)(stage * plain.places + place) * plain.block;
+    const int64_t *block = (const int64_t *)first.before + (size_t)(plain.places + place) * plain.block;
 
     for (uint32_t n = 0; n < plain.high; n++, block += plain.row)
         for (size_t i = 0; i < plain.block; i++)
@@ -764,78 +625,30 @@ static int runs_in(int stage, int place)
     return 0;
 }
 
-/* Does a channel's sample differ from the last one? */
-static int moves_in(int channel)
-{
-    const int64_t *last = (const int64_t *)state.before;
-
-    return ((const int32_t *)values.at)[channel] != last[1 + channel] ||
-           (((const uint8_t *)flags.at)[channel] == 0) != (last[9 + channel] == 0);
-}
-
-/* Was no channel lost that a place tests? */
-static int is_open(const struct plain_place *place)
-{
-    for (int i = 0; i < place->tests; i++)
-        if (((const uint8_t *)flags.at)[place->test[i].channel] == 0)
-            return 0;
-    return 1;
-}
-
-/* Counts how the piece's sample differs from the last one. A place without tests adds nothing either way, and is not asked, nor
- * is one in which nobody can stay on. */
+/* Counts how the piece's values differ from the last ones. A place without tests adds nothing either way, and is not asked. */
 static void count_moves(void)
 {
+    const int64_t *last = (const int64_t *)state.before + 1;
+    const int32_t *value = values.at;
     int moves = 0, new = 0, old = 0;
 
     if (!plain.sum || plain.channels < 2)
         return;
     for (int c = 0; c < plain.channels; c++)
-        moves |= moves_in(c);
+        moves |= value[c] != last[c];
     for (int q = 0; q < plain.places; q++) {
         const struct plain_place *place = &plain.place[q];
         int sees = 0;
 
-        if (place->tests == 0 || !is_open(place) || !runs_in(1, q))
+        if (place->tests == 0 || !stayed_in(q))
             continue;
         for (int i = 0; i < place->tests; i++)
-            sees |= moves_in(place->test[i].channel);
+            sees |= value[place->test[i].channel] != last[place->test[i].channel];
         new |= sees;
         old |= !sees;
     }
     if (new || old)
         moved[!moves ? STILL : !new ? UNSEEN : old ? NEW_TO_SOME : NEW_TO_ALL]++;
-}
-
-/* Counts what lost readings did, and flags of other numbers. */
-static void count_losses(void)
-{
-    const int64_t *last = (const int64_t *)state.before;
-    const int32_t *value = values.at;
-    const uint8_t *flag = flags.at;
-    int loss = 0, number = 0, number_before = 0;
-
-    for (int c = 0; c < PATTERN_CHANNELS_MAX; c++)
-        number_before |= last[9 + c] != 0 && last[9 + c] != 1;
-    for (int c = 0; c < plain.channels; c++) {
-        loss |= flag[c] == 0;
-        number |= flag[c] > 1;
-    }
-    lost[STATE_NUMBER] += (uint64_t)number_before;
-    lost[PIECE_NUMBER] += (uint64_t)number;
-    for (int q = 0; q < plain.places; q++) {
-        const struct plain_place *place = &plain.place[q];
-        int open = is_open(place), entered = runs_in(0, q), stayed = runs_in(1, q), again = 0, others = 0;
-
-        lost[CLOSED_ENTERED] += (uint64_t)(!open && entered);
-        lost[CLOSED_STAYED] += (uint64_t)(!open && stayed);
-        lost[OPEN_BESIDE] += (uint64_t)(open && loss && (entered || stayed));
-        for (int i = 0; i < place->tests; i++) {
-            again |= last[9 + place->test[i].channel] == 0;
-            others |= value[place->test[i].channel] != last[1 + place->test[i].channel];
-        }
-        lost[READ_AGAIN] += (uint64_t)(plain.sum && open && stayed && again && !others);
-    }
 }
 
 static uint32_t call_feed(const struct known *k, uint32_t duration)
@@ -845,7 +658,6 @@ static uint32_t call_feed(const struct known *k, uint32_t duration)
     int beside = k->refusal == 0 && (cause != 0 || k->cells * duration <= PLAIN_MOST);
     const int64_t *s = state.at, *u = second.at, *score = scores.at;
     const int32_t *value = values.at;
-    const uint8_t *flag = flags.at;
     const uint32_t *length = lengths.at;
     int64_t ticks = state.count ? s[0] : 0;
     int fine = 1;
@@ -858,23 +670,23 @@ static uint32_t call_feed(const struct known *k, uint32_t duration)
         fail("the feed's refusal is not the first cause");
         return refusal;
     }
-    expect(lend_same(&text, 0) && lend_same(&values, 0) && lend_same(&flags, 0), "a feed changed what it only reads");
+    expect(lend_same(&text, 0) && lend_same(&values, 0), "a feed changed what it only reads");
     if (refusal != 0) {
         expect(lend_same(&state, 0) && lend_same(&first, 0) && lend_same(&second, 0), "a refused feed altered the monitor");
         expect(lend_same(&scores, 0) && lend_same(&lengths, 0), "a refused feed wrote a report");
         return refusal;
     }
-    expect(lend_same(&state, 17) && lend_same(&first, k->cells) && lend_same(&second, k->cells),
+    expect(lend_same(&state, 9) && lend_same(&first, k->cells) && lend_same(&second, k->cells),
            "a feed altered what lies further");
     expect(lend_same(&scores, duration) && lend_same(&lengths, duration), "a feed wrote a report past the duration");
     fine = s[0] == ticks + duration;
     for (int i = 0; i < PATTERN_CHANNELS_MAX; i++)
-        fine &= s[i + 1] == (i < k->channels ? value[i] : 0) && s[i + 9] == (i >= k->channels || flag[i] != 0);
+        fine &= s[i + 1] == (i < k->channels ? value[i] : 0);
     for (uint64_t i = 0; i < k->cells; i++)
         fine &= u[i] == CELL_MARK;
     for (uint32_t i = 0; i < duration; i++)
         fine &= length[i] <= RUN_STEPS_MAX && (length[i] != 0 || score[i] == 0);
-    expect(fine, "after a feed: its ticks, values and flags, marks, and reports");
+    expect(fine, "after a feed: its ticks and values, marks, and reports");
     /* from tick `high` on every run that a report can speak of lies in this piece */
     for (uint32_t i = plain.high + 1; i < duration; i++)
         fine &= score[i] == score[plain.high] && length[i] == length[plain.high];
@@ -883,7 +695,6 @@ static uint32_t call_feed(const struct known *k, uint32_t duration)
         compared++;
         count_bands();
         count_moves();
-        count_losses();
         expect(alike(&state, plain_state) && alike(&first, plain_first) && alike(&second, plain_second),
                "the plain monitor's state or tables differ");
         expect(alike(&scores, plain_scores) && alike(&lengths, plain_lengths), "the plain monitor's reports differ");
@@ -904,8 +715,8 @@ static struct run_price call_price(const struct known *k, uint32_t begin)
     expect(answer.refusal == cause || (cause == 0 && answer.refusal == RUN_IMPOSSIBLE),
            "the pricing's refusal is not the first cause");
     expect(answer.refusal == 0 || answer.score == 0, "a score beside a refusal");
-    expect(lend_same(&text, 0) && lend_same(&durations, 0) && lend_same(&values, 0) && lend_same(&flags, 0) &&
-               lend_same(&edges, 0) && lend_same(&stays, 0),
+    expect(lend_same(&text, 0) && lend_same(&durations, 0) && lend_same(&values, 0) && lend_same(&edges, 0) &&
+               lend_same(&stays, 0),
            "the pricing changed what it only reads");
     return answer;
 }
@@ -928,8 +739,7 @@ static struct record_best call_best(const struct known *k)
     }
     expect(answer.found <= 1, "found is 0 or 1");
     expect(answer.found || (answer.end == 0 && answer.begin == 0 && answer.score == 0), "numbers where no run is found");
-    expect(lend_same(&text, 0) && lend_same(&durations, 0) && lend_same(&values, 0) && lend_same(&flags, 0),
-           "the best changed what it only reads");
+    expect(lend_same(&text, 0) && lend_same(&durations, 0) && lend_same(&values, 0), "the best changed what it only reads");
     if (answer.refusal != 0) {
         expect(!answer.found && lend_same(&first, 0) && lend_same(&second, 0), "a refused best altered something");
         return answer;

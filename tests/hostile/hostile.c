@@ -17,8 +17,8 @@
  *     and the least length that has it.
  * Then some more of both, in sum with several channels, where a piece often moves one of them or none.
  * The last line is `N passed, M failed`: the rounds. Each refusal of each function, each way in which a slice can be too
- * short or too long, each side of a band, each way in which channels can move that places test, and each thing that a lost
- * reading can do must occur; one that does not is a failure more. */
+ * short or too long, each side of a band, and each way in which channels can move that places test must occur; one that does
+ * not is a failure more. */
 #define _DEFAULT_SOURCE
 #include "calls.h"
 
@@ -68,7 +68,6 @@ static uint32_t lend_feed(const struct known *k)
     lend_state(k->channels);
     lend_tables(k->cells, !once(10));
     lend_values(count_values((size_t)k->channels));
-    lend_flags(count_values((size_t)k->channels));
     lend_reports(m, n);
     return duration;
 }
@@ -161,7 +160,6 @@ struct bench {
     size_t pieces;
     uint32_t ticks[PIECES];
     int32_t sample[PIECES][PATTERN_CHANNELS_MAX];
-    uint8_t read[PIECES][PATTERN_CHANNELS_MAX]; /* 0: that reading is lost */
     uint64_t total;
 };
 
@@ -172,7 +170,7 @@ struct outcome {
 
 static void make_bench(struct bench *b, int channels, int64_t most)
 {
-    int huge = once(60), losses = once(2);
+    int huge = once(60);
 
     b->pieces = (size_t)between(1, PIECES);
     b->total = 0;
@@ -180,12 +178,8 @@ static void make_bench(struct bench *b, int channels, int64_t most)
         int same = i != 0 && once(3);
 
         b->ticks[i] = (uint32_t)(huge && i == 0 ? between(65530, 65540) : between(1, most));
-        for (int j = 0; j < channels; j++) {
+        for (int j = 0; j < channels; j++)
             b->sample[i][j] = same ? b->sample[i - 1][j] : once(6) ? 0 : (int32_t)between(-30, 30);
-            b->read[i][j] = same ? b->read[i - 1][j] : !(losses && once(4));
-            if (!b->read[i][j])
-                b->sample[i][j] = 0;
-        }
         b->total += b->ticks[i];
     }
 }
@@ -197,52 +191,29 @@ static void move_few(struct bench *b, int channels)
         uint64_t moves = moving((size_t)channels);
 
         for (int j = 0; j < channels; j++)
-            if (!(moves >> j & 1)) {
+            if (!(moves >> j & 1))
                 b->sample[i][j] = b->sample[i - 1][j];
-                b->read[i][j] = b->read[i - 1][j];
-            }
     }
 }
 
-/* A piece's sample, or those of several; what was read says so by any number but 0. */
-static void lend_sample(size_t count, const int32_t *sample, const uint8_t *read)
-{
-    uint8_t *flag = lend(&flags, count, where());
-
-    memcpy(lend(&values, count, where()), sample, count * sizeof *sample);
-    for (size_t i = 0; i < count; i++)
-        flag[i] = (uint8_t)(read[i] ? between(1, 255) : 0);
-    lend_keep(&values);
-    lend_keep(&flags);
-}
-
 /* A feed that must be refused; call_feed sees that it alters nothing. */
-static void refused_between(const struct known *k, const int32_t *sample, const uint8_t *read)
+static void refused_between(const struct known *k, const int32_t *sample)
 {
     uint32_t duration = (uint32_t)between(1, 9);
-    size_t room = duration, channels = (size_t)k->channels, one = draw() % channels;
+    size_t room = duration;
 
-    lend_sample(channels, sample, read);
-    switch (between(0, 4)) {
+    memcpy(lend(&values, (size_t)k->channels, where()), sample, (size_t)k->channels * sizeof *sample);
+    switch (between(0, 2)) {
     case 0:
         room--;
         break;
     case 1:
         duration = once(2) ? 0 : PIECE_TICKS_MAX + 1;
         break;
-    case 2:
-        ((int32_t *)values.at)[one] = 1;
-        ((uint8_t *)flags.at)[one] = 0;
-        break;
-    case 3:
-        channels = once(2) ? channels + 1 : channels - 1;
-        memset(lend(&flags, channels, where()), 1, channels);
-        break;
     default:
-        ((int32_t *)values.at)[one] = once(2) ? VALUE_MAX + 1 : -VALUE_MAX - 1;
+        ((int32_t *)values.at)[draw() % (size_t)k->channels] = once(2) ? VALUE_MAX + 1 : -VALUE_MAX - 1;
     }
     lend_keep(&values);
-    lend_keep(&flags);
     lend_reports(room, room);
     lend_keep(&state);
     lend_keep(&first);
@@ -266,8 +237,7 @@ static void opened(const struct known *k)
 
 /* Feeds a piece of any length in parts, as long as can be or cut at random with refused feeds between, and keeps the
  * reports. */
-static int fed_piece(const struct known *k, uint32_t ticks, const int32_t *sample, const uint8_t *read, int cut,
-                     int64_t *score, uint32_t *length)
+static int fed_piece(const struct known *k, uint32_t ticks, const int32_t *sample, int cut, int64_t *score, uint32_t *length)
 {
     uint32_t left = ticks;
 
@@ -277,9 +247,10 @@ static int fed_piece(const struct known *k, uint32_t ticks, const int32_t *sampl
         if (cut) {
             part = (uint32_t)between(1, part);
             if (once(3))
-                refused_between(k, sample, read);
+                refused_between(k, sample);
         }
-        lend_sample((size_t)k->channels, sample, read);
+        memcpy(lend(&values, (size_t)k->channels, where()), sample, (size_t)k->channels * sizeof *sample);
+        lend_keep(&values);
         lend_reports(part + (size_t)between(0, 2), part + (size_t)between(0, 2));
         lend_keep(&state);
         lend_keep(&first);
@@ -303,7 +274,7 @@ static void fed(const struct known *k, const struct bench *b, int cut, struct ou
 
     opened(k);
     for (size_t i = 0; i < b->pieces; i++) {
-        if (!fed_piece(k, b->ticks[i], b->sample[i], b->read[i], cut, o->score + at, o->length + at))
+        if (!fed_piece(k, b->ticks[i], b->sample[i], cut, o->score + at, o->length + at))
             return;
         at += b->ticks[i];
     }
@@ -315,17 +286,13 @@ static void fed(const struct known *k, const struct bench *b, int cut, struct ou
 static struct record_best best_of(const struct known *k, const struct bench *b)
 {
     uint32_t *ticks = lend(&durations, b->pieces, where());
-    size_t channels = (size_t)k->channels;
-    int32_t sample[PIECES * PATTERN_CHANNELS_MAX];
-    uint8_t read[PIECES * PATTERN_CHANNELS_MAX];
+    int32_t *sample = lend(&values, b->pieces * (size_t)k->channels, where());
 
     memcpy(ticks, b->ticks, b->pieces * sizeof *ticks);
-    for (size_t i = 0; i < b->pieces; i++) {
-        memcpy(sample + i * channels, b->sample[i], channels * sizeof *sample);
-        memcpy(read + i * channels, b->read[i], channels);
-    }
+    for (size_t i = 0; i < b->pieces; i++)
+        memcpy(sample + i * (size_t)k->channels, b->sample[i], (size_t)k->channels * sizeof *sample);
     lend_keep(&durations);
-    lend_sample(b->pieces * channels, sample, read);
+    lend_keep(&values);
     lend_table(&first, k->cells + (size_t)between(0, 3), 0);
     lend_table(&second, k->cells + (size_t)between(0, 3), 0);
     return call_best(k);
@@ -507,7 +474,6 @@ static void long_feed(void)
         lend_keep(&first);
         lend_keep(&second);
         lend_values((size_t)k.channels);
-        lend_flags((size_t)k.channels);
         lend_reports(PIECE_TICKS_MAX, PIECE_TICKS_MAX + (size_t)between(0, 1));
         call_feed(&k, PIECE_TICKS_MAX);
     }
@@ -562,23 +528,6 @@ static int rare_moves(void)
     return rare;
 }
 
-/* The same of what lost readings did. */
-static int rare_losses(void)
-{
-    int rare = 0;
-
-    printf("lost readings");
-    for (int n = 0; n < LOSSES; n++)
-        printf(" %s:%" PRIu64, loss_names[n], lost[n]);
-    printf("\n");
-    for (int n = 0; n < LOSSES; n++)
-        if (lost[n] < 20) {
-            rare++;
-            printf("FAILED: lost readings, %s only %" PRIu64 " times\n", loss_names[n], lost[n]);
-        }
-    return rare;
-}
-
 int main(int argc, char **argv)
 {
     /* which numbers document 01 names for each function; of the count, 0 for a refused text and 1 for cells */
@@ -586,17 +535,16 @@ int main(int argc, char **argv)
         "\0\1\2\3\4\5\xff",         "\0\1\xff",
         "\0\1\2\3\4\5\x0b\x0c\xff", "\0\1\2\3\4\5\x06\x08\x0b\x0c\x0d\x0e\xff",
         "\0\1\2\3\4\5\x08\x09\x0a\xff", "\0\1\2\3\4\5\x08\x0b\xff"};
-    /* which slices each function has; one that is too short, and values and flags that are too many, must occur */
+    /* which slices each function has; one that is too short, and values that are too many, must occur */
     static const char *const sliced[FUNCTIONS] = {
-        "\xff", "\xff", "\0\1\2\3\xff", "\0\1\2\3\4\5\6\7\x08\xff", "\4\5\xff", "\1\2\3\4\5\xff"};
+        "\xff", "\xff", "\0\1\2\3\xff", "\0\1\2\3\4\5\6\7\xff", "\4\xff", "\1\2\3\4\xff"};
     int passed = 0, failed = 0;
 
     lend_room(&text, 1, CASE_BYTES);
-    lend_room(&state, 8, 24);
+    lend_room(&state, 8, 16);
     lend_room(&first, 8, CELLS + 10);
     lend_room(&second, 8, CELLS + 10);
     lend_room(&values, 4, STEPS * PATTERN_CHANNELS_MAX + 40);
-    lend_room(&flags, 1, STEPS * PATTERN_CHANNELS_MAX + 40);
     lend_room(&scores, 8, LONG + 10);
     lend_room(&lengths, 4, LONG + 10);
     lend_room(&durations, 4, STEPS);
@@ -666,14 +614,14 @@ int main(int argc, char **argv)
             printf("FAILED: %s answered a number that is not named for it\n", names[f]);
         }
         for (const char *s = sliced[f]; *s != '\xff'; s++)
-            for (int n = 0; n < (*s == VALUES || *s == FLAGS ? SHAPES : ONE_LONG); n++)
+            for (int n = 0; n < (*s == VALUES ? SHAPES : ONE_LONG); n++)
                 if (shaped[f][(int)*s][n] < 20) {
                     failed++;
                     printf("FAILED: %s, %s %s only %" PRIu64 " times\n", names[f], slice_names[(int)*s], shape_names[n],
                            shaped[f][(int)*s][n]);
                 }
     }
-    failed += rare_sides("margin", measured[0]) + rare_sides("sum", measured[1]) + rare_moves() + rare_losses();
+    failed += rare_sides("margin", measured[0]) + rare_sides("sum", measured[1]) + rare_moves();
     if (compared < 10000) {
         failed++;
         printf("FAILED: too few feeds beside the plain monitor\n");
@@ -683,7 +631,6 @@ int main(int argc, char **argv)
     lend_end(&first);
     lend_end(&second);
     lend_end(&values);
-    lend_end(&flags);
     lend_end(&scores);
     lend_end(&lengths);
     lend_end(&durations);

@@ -14,8 +14,7 @@ struct case_record {
     size_t pieces;
     uint32_t ticks[CASE_PIECES];
     int32_t sample[CASE_PIECES][PATTERN_CHANNELS_MAX];
-    uint8_t read[CASE_PIECES][PATTERN_CHANNELS_MAX]; /* 0 beside a value that is lost, `?` */
-    size_t count[CASE_PIECES];                       /* how many values a piece has */
+    size_t count[CASE_PIECES]; /* how many values a piece has */
 };
 
 static const char *case_at, *case_end;
@@ -61,15 +60,12 @@ static uint32_t case_record(struct case_record *r, const char *from, size_t byte
         /* a duration of that many ticks is in range, so one that is longer is held past it */
         r->ticks[r->pieces] = value == INT32_MAX && memcmp(case_at - 10, "2147483647", 10) != 0 ? UINT32_MAX : (uint32_t)value;
         while (case_word(" ")) {
-            int missing = case_word("?"), minus = !missing && case_word("-");
+            int minus = case_word("-");
 
-            value = 0;
-            if (!missing && (!case_number(&value) || (minus && value == 0)))
+            if (!case_number(&value) || (minus && value == 0))
                 return TEXT_BROKEN;
-            if (*count < PATTERN_CHANNELS_MAX) {
+            if (*count < PATTERN_CHANNELS_MAX)
                 r->sample[r->pieces][*count] = (int32_t)(minus ? -value : value);
-                r->read[r->pieces][*count] = !missing;
-            }
             ++*count;
         }
         if (*count == 0 || !case_word(")\n"))
@@ -81,18 +77,14 @@ static uint32_t case_record(struct case_record *r, const char *from, size_t byte
 
 static struct record_best case_best(const struct known *k, const struct case_record *r)
 {
-    static int32_t sample[CASE_PIECES * PATTERN_CHANNELS_MAX];
-    static uint8_t read[CASE_PIECES * PATTERN_CHANNELS_MAX];
     uint32_t *ticks = lend(&durations, r->pieces, where());
-    size_t channels = (size_t)k->channels;
+    int32_t *sample = lend(&values, r->pieces * (size_t)k->channels, where());
 
     memcpy(ticks, r->ticks, r->pieces * sizeof *ticks);
-    for (size_t i = 0; i < r->pieces; i++) {
-        memcpy(sample + i * channels, r->sample[i], channels * sizeof *sample);
-        memcpy(read + i * channels, r->read[i], channels);
-    }
+    for (size_t i = 0; i < r->pieces; i++)
+        memcpy(sample + i * (size_t)k->channels, r->sample[i], (size_t)k->channels * sizeof *sample);
     lend_keep(&durations);
-    lend_sample(r->pieces * channels, sample, read);
+    lend_keep(&values);
     lend_table(&first, CASE_CELLS, 0);
     lend_table(&second, CASE_CELLS, 0);
     return call_best(k);
@@ -109,7 +101,7 @@ static void case_rows(FILE *out, const struct known *k, const struct case_record
     for (size_t i = 0; i < r->pieces; i++) {
         if (r->ticks[i] > CASE_TICKS)
             lend_fault("a piece of a case is too long");
-        if (!fed_piece(k, r->ticks[i], r->sample[i], r->read[i], 1, score, length))
+        if (!fed_piece(k, r->ticks[i], r->sample[i], 1, score, length))
             return;
         for (uint32_t t = 0; t < r->ticks[i]; t++) {
             end++;

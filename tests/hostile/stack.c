@@ -27,7 +27,6 @@ static size_t length;
 static int64_t state[MONITOR_STATE_LENGTH], first[CELLS], second[CELLS], scores[PIECE_TICKS_MAX];
 static uint32_t lengths[PIECE_TICKS_MAX], durations[PIECES], edges[STEPS], stays[STEPS];
 static int32_t values[PIECES * 8];
-static uint8_t read[PIECES * 8];
 static uint32_t ticks = PIECE_TICKS_MAX, answer;
 
 static void do_check(void) { answer |= pattern_check(text, length); }
@@ -38,19 +37,17 @@ static void do_open(void)
 }
 static void do_feed(void)
 {
-    answer |= monitor_feed(text, length, state, MONITOR_STATE_LENGTH, first, CELLS, second, CELLS, ticks, values, 8, read, 8,
+    answer |= monitor_feed(text, length, state, MONITOR_STATE_LENGTH, first, CELLS, second, CELLS, ticks, values, 8,
                            scores, PIECE_TICKS_MAX, lengths, PIECE_TICKS_MAX);
     state[0] = 1; /* so that the ticks in all stay few */
 }
 static void do_price(void)
 {
-    answer |= run_price(text, length, durations, PIECES, values, PIECES * 8, read, PIECES * 8, 2, edges, STEPS, stays, STEPS)
-                  .refusal;
+    answer |= run_price(text, length, durations, PIECES, values, PIECES * 8, 2, edges, STEPS, stays, STEPS).refusal;
 }
 static void do_best(void)
 {
-    answer |= record_best(text, length, durations, PIECES, values, PIECES * 8, read, PIECES * 8, first, CELLS, second, CELLS)
-                  .refusal;
+    answer |= record_best(text, length, durations, PIECES, values, PIECES * 8, first, CELLS, second, CELLS).refusal;
 }
 
 static const struct {
@@ -151,10 +148,8 @@ int main(int argc, char **argv)
     /* a record of 4,096 pieces, a run of 4,095 steps, a feed of 65,535 ticks */
     for (int i = 0; i < PIECES; i++)
         durations[i] = 2;
-    for (int i = 0; i < PIECES * 8; i++) {
+    for (int i = 0; i < PIECES * 8; i++)
         values[i] = i % 13 - 6;
-        read[i] = 1;
-    }
     for (int i = 0; i < STEPS; i++) {
         edges[i] = (uint32_t)i % 32;
         stays[i] = 1;

@@ -67,9 +67,6 @@ struct Edge {
 
 type Record = Vec<(u64, Vec<i64>)>;
 
-/// Stands among a record's values for a reading that was lost (R-7).
-const LOST: i64 = i64::MIN;
-
 impl Edge {
     fn line(&self) -> String {
         let mut line = format!("(edge {} {}", self.from, self.to);
@@ -134,8 +131,7 @@ fn text(lines: &[String]) -> String {
 }
 
 fn record_lines(record: &Record) -> Vec<String> {
-    let value = |value: &i64| if *value == LOST { " ?".to_string() } else { format!(" {value}") };
-    let values = |values: &Vec<i64>| values.iter().map(value).collect::<String>();
+    let values = |values: &Vec<i64>| values.iter().map(|value| format!(" {value}")).collect::<String>();
     record.iter().map(|piece| format!("(piece {}{})", piece.0, values(&piece.1))).collect()
 }
 
@@ -1877,7 +1873,7 @@ const TWO_CHANNELS: [&str; 8] = [
     "(pattern @ 2 0 2 5)\n(place both (in 0 4 9))\n(edge 0 0)\n",
 ];
 
-/// Values of the two channels, a digit for each tick, or a `?`.
+/// Values of the two channels, a digit for each tick.
 const THERE_AND_BACK: [[&str; 2]; 5] = [
     ["555555", "121212"],
     ["558555", "111111"],
@@ -1887,7 +1883,7 @@ const THERE_AND_BACK: [[&str; 2]; 5] = [
 ];
 
 fn digits([one, other]: [&str; 2]) -> Vec<Vec<i64>> {
-    let digit = |byte: u8| if byte == b'?' { LOST } else { i64::from(byte - b'0') };
+    let digit = |byte: u8| i64::from(byte - b'0');
     one.bytes().zip(other.bytes()).map(|(one, other)| vec![digit(one), digit(other)]).collect()
 }
 
@@ -1903,42 +1899,31 @@ fn there_and_back(cases: &mut Cases) {
     }
 }
 
-/// The records with these values at their ticks, cut in every way where they do not change.
-fn cut_every_way(ticks: &[Vec<i64>]) -> Vec<Record> {
-    let mut free: Vec<usize> = (1..ticks.len()).collect();
-    free.retain(|at| ticks[at - 1] == ticks[*at]);
-    let mut records = vec![Vec::new(); 1 << free.len()];
-    for (chosen, record) in records.iter_mut().enumerate() {
-        for (at, values) in ticks.iter().enumerate() {
-            let cut = free.iter().position(|other| *other == at).is_none_or(|bit| chosen >> bit & 1 == 1);
-            match record.last_mut() {
-                Some((duration, _)) if !cut => *duration += 1,
-                _ => record.push((1, values.clone())),
-            }
-        }
-    }
-    records
-}
-
 /// One record, cut in every way where nothing changes: the answer is the same each time.
 fn twitches_at_cuts(cases: &mut Cases) {
+    let ticks = digits(["5555888", "1122211"]);
+    let mut free: Vec<usize> = (1..ticks.len()).collect();
+    free.retain(|at| ticks[at - 1] == ticks[*at]);
     for pattern in [0, 1, 3, 4].map(|at: usize| TWO_CHANNELS[at]) {
-        for record in cut_every_way(&digits(["5555888", "1122211"])) {
+        for chosen in 0..1 << free.len() {
+            let mut record: Record = Vec::new();
+            for (at, values) in ticks.iter().enumerate() {
+                let cut = free.iter().position(|other| *other == at).is_none_or(|bit| chosen >> bit & 1 == 1);
+                match record.last_mut() {
+                    Some(last) if !cut => last.0 += 1,
+                    _ => record.push((1, values.clone())),
+                }
+            }
             cases.add("twitch-at-cuts", "ok", pattern.replacen('@', "sum", 1), text(&record_lines(&record)));
         }
     }
 }
 
-/// The record with these lines.
-fn record_of(lines: &str) -> Record {
-    let numbers = |line: &str| line.trim_matches(['(', ')']).split(' ').flat_map(str::parse).collect::<Vec<i64>>();
-    lines.lines().map(numbers).map(|piece| (piece[0] as u64, piece[1..].to_vec())).collect()
-}
-
 /// The worked examples with more than one channel, one of which twitches at each second or third tick.
 fn example_twitches(cases: &mut Cases) {
     for (example, lines) in &EXAMPLES[1..] {
-        let record = record_of(lines);
+        let numbers = |line: &str| line.trim_matches(['(', ')']).split(' ').flat_map(str::parse).collect::<Vec<i64>>();
+        let record: Record = lines.lines().map(numbers).map(|piece| (piece[0] as u64, piece[1..].to_vec())).collect();
         for channel in 0..record[0].1.len() {
             for pace in [2, 3] {
                 let mut ticks = each_tick(&record);
@@ -1952,7 +1937,7 @@ fn example_twitches(cases: &mut Cases) {
     }
 }
 
-/// The cases of request R-3. They come after those on bands.
+/// The cases of request R-3. They come last, so the cases before them are what they were.
 fn twitch_cases(random: &mut Random, cases: &mut Cases) {
     each_channel(cases);
     there_and_back(cases);
@@ -1960,356 +1945,6 @@ fn twitch_cases(random: &mut Random, cases: &mut Cases) {
     example_twitches(cases);
     random_twitches(random, cases);
     added_channels(random, cases);
-}
-
-// -------------------------------------------------------------------------------------------- losses
-
-/// The channels that places test; one that is tested twice stands here twice.
-fn channels_tested(pattern: &Pattern) -> Vec<usize> {
-    let channel = |test: &String| test.split(' ').nth(1).and_then(|word| word.parse().ok()).unwrap_or_default();
-    pattern.places.iter().flat_map(|place| &place.1).map(channel).collect()
-}
-
-/// The record with one loss or a few: of one channel, of some or of all, and often at an end of the record.
-fn with_losses(random: &mut Random, pattern: &Pattern, record: &Record) -> Record {
-    let mut ticks = each_tick(record);
-    let tested = channels_tested(pattern);
-    for _ in 0..few(random, [0, 45, 40, 15, 0]) {
-        let channels = match random.below(10) {
-            0 => (0..pattern.channels).collect(),
-            1 => some_channels(random, 2, pattern.channels),
-            2 | 3 => vec![random.below(pattern.channels)],
-            _ if tested.is_empty() => vec![0],
-            _ => vec![tested[random.below(tested.len())]],
-        };
-        let length = few(random, [0, 50, 35, 15, 0]).min(ticks.len());
-        let last = ticks.len() - length;
-        let from = [0, last, random.from_to(0, last), random.from_to(0, last)][random.below(4)];
-        for values in &mut ticks[from..from + length] {
-            channels.iter().for_each(|channel| values[*channel] = LOST);
-        }
-    }
-    cut_at_changes(&ticks)
-}
-
-/// Both weightings, and one of them once more where it can be, with an answer that stays as it is: with the record
-/// cut elsewhere, and with more losses in a channel that no place tests.
-fn add_losses(random: &mut Random, cases: &mut Cases, kind: &str, mut pattern: Pattern, record: &Record) {
-    add_both(cases, kind, pattern.clone(), record);
-    pattern.weighting = random.pick(&["margin", "sum"]);
-    let cut = cut_anew(random, record);
-    if cut != *record {
-        cases.add("lost-cut-anew", "ok", pattern.text(), text(&record_lines(&cut)));
-    }
-    let tested = channels_tested(&pattern);
-    let untested: Vec<usize> = (0..pattern.channels).filter(|channel| !tested.contains(channel)).collect();
-    if !untested.is_empty() {
-        let channel = untested[random.below(untested.len())];
-        let chance = [30, 60, 100][random.below(3)];
-        let mut ticks = each_tick(record);
-        for values in ticks.iter_mut().filter(|_| random.percent(chance)) {
-            values[channel] = LOST;
-        }
-        let more = cut_at_changes(&ticks);
-        if more != *record {
-            cases.add("lost-untested", "ok", pattern.text(), text(&record_lines(&more)));
-        }
-    }
-}
-
-/// Losses in patterns whose places leave channels out, and in patterns of any shape.
-fn random_losses(random: &mut Random, cases: &mut Cases) {
-    for shape in &TWITCHES {
-        for _ in 0..6 {
-            let (pattern, record) = shape.draw(random);
-            let record = with_losses(random, &pattern, &record);
-            add_losses(random, cases, &shape.kind.replacen("twitch", "lost", 1), pattern, &record);
-        }
-    }
-    let makers: [Maker; 3] = [|random| small(random, false), timed, |random| with_bands(random, tame)];
-    for turn in 0..18 {
-        let (pattern, record) = loop {
-            let (pattern, record) = makers[turn % 3](random);
-            if ticks(&record) > 4 && pattern.cost(ticks(&record)) <= COST / 6.0 {
-                break (pattern, record);
-            }
-        };
-        let record = with_losses(random, &pattern, &record);
-        add_losses(random, cases, "lost-any-shape", pattern, &record);
-    }
-}
-
-/// Small patterns over two channels. `@` is the weighting.
-const LOSING: [&str; 6] = [
-    // One place, and an end place that tests the other channel.
-    "(pattern @ 2 0 1 3)\n(place start (< 0 7))\n(place end (> 1 3))\n(edge 0 1)\n",
-    // Two places, which test one channel each.
-    "(pattern @ 2 0 2 4)\n(place start (< 0 7))\n(place plain (> 1 3))\n(place end)\n(edge 0 1)\n(edge 1 2)\n",
-    // A place without tests between them.
-    "(pattern @ 2 0 3 5)\n(place start (> 1 0))\n(place plain)\n(place plain (>= 0 6))\n(place end)\n\
-     (edge 0 1)\n(edge 1 2)\n(edge 2 3)\n",
-    // To another place and back. A run may end where another one stays.
-    "(pattern @ 2 1 2 5)\n(place both (<= 0 4))\n(place both (< 1 3))\n(edge 0 1 (reset 0))\n(edge 1 0 (<= 0 2))\n",
-    // No stay is tested.
-    "(pattern @ 2 0 1 3)\n(place start)\n(place end (< 0 3) (> 1 1))\n(edge 0 0)\n(edge 0 1)\n",
-    // One place, which tests both channels, one of them by a band.
-    "(pattern @ 2 0 1 4)\n(place start (in 0 -2 6) (>= 1 0))\n(place end)\n(edge 0 1)\n",
-];
-
-/// What was read of the two channels, and what was lost.
-const READ_AND_LOST: [[&str; 2]; 7] = [
-    ["?55855", "121212"],
-    ["55855?", "112211"],
-    ["558??8", "122112"],
-    ["555888", "1?2?12"],
-    ["0?00?0", "0??000"],
-    ["5??588", "1??122"],
-    ["??????", "112211"],
-];
-
-fn losses_by_hand(cases: &mut Cases) {
-    for pattern in LOSING {
-        for values in READ_AND_LOST {
-            let record = text(&record_lines(&cut_at_changes(&digits(values))));
-            for weighting in ["margin", "sum"] {
-                cases.add("lost-few-ticks", "ok", pattern.replacen('@', weighting, 1), &record);
-            }
-        }
-        // Whole pieces, and the whole record.
-        for record in [
-            "(piece 1 ? ?)\n(piece 3 5 1)\n(piece 2 ? ?)\n",
-            "(piece 3 5 1)\n(piece 1 ? ?)\n(piece 3 2 4)\n",
-            "(piece 2 ? ?)\n(piece 3 ? ?)\n",
-        ] {
-            for weighting in ["margin", "sum"] {
-                cases.add("lost-pieces", "ok", pattern.replacen('@', weighting, 1), record);
-            }
-        }
-    }
-}
-
-/// A loss of one tick or two at each tick of a record.
-fn losses_at_each_tick(cases: &mut Cases) {
-    for (pattern, weighting) in [(LOSING[1], "sum"), (LOSING[3], "margin")] {
-        for (channel, length) in [(0, 1), (0, 2), (1, 1), (1, 2)] {
-            for from in 0..=6 - length {
-                let mut ticks = digits(["555888", "111122"]);
-                ticks[from..from + length].iter_mut().for_each(|values| values[channel] = LOST);
-                let record = text(&record_lines(&cut_at_changes(&ticks)));
-                cases.add("lost-each-tick", "ok", pattern.replacen('@', weighting, 1), record);
-            }
-        }
-    }
-}
-
-/// A record with losses, cut in every way where nothing changes: the answer is the same each time.
-fn losses_at_cuts(cases: &mut Cases) {
-    for (pattern, weighting) in [(1, "margin"), (2, "sum"), (3, "sum"), (5, "margin")] {
-        for record in cut_every_way(&digits(["55??688", "1111???"])) {
-            let pattern = LOSING[pattern].replacen('@', weighting, 1);
-            cases.add("lost-at-cuts", "ok", pattern, text(&record_lines(&record)));
-        }
-    }
-}
-
-/// One place that tests one channel while one channel is lost, the same or another.
-fn each_channel_lost(cases: &mut Cases) {
-    let mut pairs = vec![[1, 0, 0]];
-    pairs.extend((0..16).map(|pair| [8, pair / 2, (pair / 2 + pair % 2) % 8])); // the same and the next
-    for [channels, tested, lost] in pairs {
-        let mut ticks = vec![vec![4; channels]; 6];
-        ticks[2..4].iter_mut().for_each(|values| values[lost] = LOST);
-        let record = text(&record_lines(&cut_at_changes(&ticks)));
-        for weighting in ["margin", "sum"] {
-            let places = format!("(place start (< {tested} 6))\n(place end)\n");
-            let pattern = format!("(pattern {weighting} {channels} 0 1 4)\n{places}(edge 0 1)\n");
-            cases.add("lost-each-channel", "ok", pattern, &record);
-        }
-    }
-}
-
-/// One place with four tests while the channel of one of them is lost.
-fn each_test_lost(cases: &mut Cases) {
-    for lost in 0..4 {
-        let mut ticks = vec![vec![3, 4, 5, 6]; 5];
-        ticks[2][lost] = LOST;
-        let record = text(&record_lines(&cut_at_changes(&ticks)));
-        for weighting in ["margin", "sum"] {
-            let places = "(place start (< 0 9) (> 1 0) (in 2 4 8) (>= 3 2))\n(place end)\n";
-            let pattern = format!("(pattern {weighting} 4 0 1 4)\n{places}(edge 0 1)\n");
-            cases.add("lost-each-test", "ok", pattern, &record);
-        }
-    }
-}
-
-/// A loss beside zeros, which it is not. Every tick has a line.
-fn losses_beside_zeros(cases: &mut Cases) {
-    for test in ["(> 0 -3)", "(<= 0 3)", "(in 0 -2 2)"] {
-        for values in ["0?0", "?00", "00?", "0??0", "?0?0?0", "00?5?0"] {
-            let record = values.chars().map(|value| format!("(piece 1 {value})\n")).collect::<String>();
-            for weighting in ["margin", "sum"] {
-                let places = format!("(place start {test})\n(place end)\n");
-                let pattern = format!("(pattern {weighting} 1 0 1 3)\n{places}(edge 0 0)\n(edge 0 1)\n");
-                cases.add("lost-zero", "ok", pattern, &record);
-            }
-        }
-    }
-}
-
-/// An end place that tests a channel which is lost at one tick: nobody stays there. Then the same where runs may
-/// also go on from it.
-fn losses_of_end_places(cases: &mut Cases) {
-    for (end, back) in [("end", ""), ("both", "(edge 1 0)\n")] {
-        for tick in 0..6 {
-            let mut ticks = digits(["558855", "455455"]);
-            ticks[tick][1] = LOST;
-            let record = text(&record_lines(&cut_at_changes(&ticks)));
-            for weighting in ["margin", "sum"] {
-                let places = format!("(place start (< 0 7))\n(place {end} (> 1 3))\n");
-                let pattern = format!("(pattern {weighting} 2 0 1 3)\n{places}(edge 0 1)\n{back}");
-                cases.add("lost-end-place", "ok", pattern, &record);
-            }
-        }
-    }
-}
-
-/// The worked examples with one reading lost, each in turn.
-fn example_losses(cases: &mut Cases) {
-    for (example, lines) in EXAMPLES {
-        let record = record_of(lines);
-        for piece in 0..record.len() {
-            for channel in 0..record[0].1.len() {
-                let mut record = record.clone();
-                record[piece].1[channel] = LOST;
-                let weighting = ["margin", "sum"][(piece + channel) % 2];
-                cases.add("lost-example", "ok", example.replacen('@', weighting, 1), text(&record_lines(&record)));
-            }
-        }
-    }
-}
-
-/// Many lost readings.
-fn long_losses(cases: &mut Cases) {
-    let free = "(pattern margin 1 0 1 2)\n(place start)\n(place end (< 0 3))\n(edge 0 1)\n";
-    cases.add("lost-long", "ok", free, "(piece 1 ?)\n".repeat(1_365));
-    cases.add("lost-long", "1", free, "(piece 1 ?)\n".repeat(1_366));
-    let (example, _) = EXAMPLES[0];
-    for weighting in ["margin", "sum"] {
-        let record = "(piece 2 10)\n(piece 65536 ?)\n(piece 2 40)\n(piece 3 10)\n";
-        cases.add("lost-long", "ok", example.replacen('@', weighting, 1), record);
-    }
-}
-
-/// Lines of a record that are broken in form.
-const LOST_FORMS: [&str; 48] = [
-    // Not a `?` alone, and other signs.
-    "(piece 2 ??)", "(piece 2 -?)", "(piece 2 +?)", "(piece 2 ?1)", "(piece 2 1?)", "(piece 2 ?0)", "(piece 2 0?)",
-    "(piece 2 ?-)", "(piece 2 ?-1)", "(piece 2 -1?)", "(piece 2 ?.)", "(piece 2 ?,?)", "(piece 2 '?')", "(piece 2 10 ??)",
-    "(piece 2 -? 10)", "(piece 2 ? ?1)", "(piece 2 !)", "(piece 2 *)", "(piece 2 -)", "(piece 2 ¿)", "(piece 2 none)",
-    // Spaces and brackets.
-    "(piece 2  ?)", "(piece 2 ?  ?)", "(piece 2 ? )", "(piece 2\t?)", "(piece 2 ?\t?)", "(piece 2 (?))", "(piece 2 (? ?))",
-    "(piece 2 ?", "(piece 2 ?))", "piece 2 ?", " (piece 2 ?)", "(piece 2 ?) ", "(piece 2 ?)\r", "(piece 2 ?)(piece 2 ?)",
-    "(piece 2 ?)\n", // an empty line behind it
-    // Where no value stands.
-    "(piece ? 10)", "(piece ? ?)", "(piece ? 2 10)", "(piece -? 10)", "(piece 2? 10)", "(piece ?2 10)", "(piece ?)",
-    "(piece 2?)", "(piece? 2 10)", "(? 2 10)", "(?)", "?",
-];
-
-/// Forms with a `?` that are broken: a line among others in the record, and a change of the pattern.
-fn faulty_losses(random: &mut Random, cases: &mut Cases) {
-    let (example, record) = EXAMPLES[0];
-    let pattern = example.replacen('@', "margin", 1).replacen("(< 0 15)", "(in 0 5 15)", 1);
-    for line in LOST_FORMS {
-        let mut lines = ["(piece 2 10)", "(piece 1 ?)", "(piece 2 40)"].map(String::from).to_vec();
-        lines.insert(random.from_to(0, lines.len()), line.to_string());
-        cases.add("lost-form", "2", &pattern, text(&lines));
-    }
-    cases.add("lost-form", "2", &pattern, "(piece 2 10)\n(piece 1 ?)");
-    for (from, to) in [
-        ("1 1 1 4", "? 1 1 4"), ("1 1 1 4", "1 ? 1 4"), ("1 1 1 4", "1 1 ? 4"), ("1 1 1 4", "1 1 1 ?"), ("margin", "?"),
-        ("(> 0 5)", "(> 0 ?)"), ("(> 0 5)", "(> 0 -?)"), ("(> 0 5)", "(> ? 5)"), ("(> 0 5)", "(? 0 5)"),
-        ("(> 0 5)", "(> 0 ??)"), ("(> 0 5)", "?"), ("(in 0 5 15)", "(in 0 ? 15)"), ("(in 0 5 15)", "(in 0 5 ?)"),
-        ("(in 0 5 15)", "(in ? 5 15)"), ("(< 0 3)", "(< 0 ?)"), ("(< 0 3)", "(< ? 3)"), ("(reset 0)", "(reset ?)"),
-        ("(edge 0 1", "(edge ? 1"), ("(edge 0 1", "(edge 0 ?"), ("place end", "place ?"), ("(place end)", "(place end)\n?"),
-        // With another cause on the line.
-        ("(> 0 5)", "(> 9 ?)"), ("(> 0 5)", "(> 0 1000001) (> 0 ?)"), ("(< 0 3)", "(< 9 ?)"),
-        ("(> 0 5)", "(> 0 5) (> 0 5) (> 0 5) (> 0 5) (> 0 ?)"),
-    ] {
-        let changed = pattern.replacen(from, to, 1);
-        assert_ne!(pattern, changed);
-        cases.add("lost-form", "2", changed, record);
-    }
-}
-
-/// A `?` counts among the values: one too many, and one too few.
-fn losses_counted(random: &mut Random, cases: &mut Cases) {
-    let tests = "(place start (< 0 7))\n(place end)\n(edge 0 1)\n";
-    for (channels, values) in [
-        (1, "? ?"), (1, "10 ?"), (1, "? 10"), (1, "? ? ? ? ? ? ? ? ?"), (2, "?"), (2, "? ? ?"), (2, "10 10 ?"),
-        (2, "? 10 10"), (2, "10 ? 10"), (2, "10 ? ?"), (3, "? ?"), (3, "10 ?"), (3, "? ? ? ?"), (8, "? ? ? ? ? ? ?"),
-        (8, "? ? ? ? ? ? ? ? ?"), (8, "1 2 3 4 5 6 7 8 ?"),
-    ] {
-        let mut lines = [" 10", " ?"].map(|value| format!("(piece 2{})", value.repeat(channels))).to_vec();
-        lines.insert(random.from_to(0, lines.len()), format!("(piece 1 {values})"));
-        cases.add("lost-count", "8", format!("(pattern sum {channels} 0 1 3)\n{tests}"), text(&lines));
-    }
-}
-
-/// What is refused first beside a `?`.
-fn order_of_refusals(cases: &mut Cases) {
-    let (example, record) = EXAMPLES[0];
-    let pattern = example.replacen('@', "margin", 1);
-    for (due, record) in [
-        ("ok", "(piece 2 ?)\n(piece 3 10)\n"), ("8", "(piece 1 ?)\n(piece 0 ?)\n"), ("8", "(piece 2147483648 ?)\n"),
-        ("8", "(piece 2147483647 ?)\n(piece 1 ?)\n"), ("8", "(piece 1 ?)\n(piece 1 1000001)\n"),
-        ("8", "(piece 1 -1000001)\n(piece 1 ?)\n"), ("8", "(piece 1 ? 1000001)\n"), ("2", "(piece 1 ? ?)\n(piece 1 ??)\n"),
-        ("2", "(piece 0 ?)\n(piece 1 10)\n(piece 1 -?)\n"), ("2", "(piece 1 1000001)\n(piece ? 10)\n"),
-        ("2", "(piece 1 1?)\n(piece 1 ? ?)\n"), ("2", "(piece 1 ? ?)\n(piece 1 ?)"),
-    ] {
-        cases.add("lost-order", due, &pattern, record);
-        let over = pattern.replacen("1 4)", "1 4095)", 1);
-        cases.add("lost-order", if due == "ok" { "11" } else { due }, over, record);
-        cases.add("lost-order", "3", pattern.replacen("1 4)", "1 4096)", 1), record);
-    }
-    // Of a pattern's lines, the first faulty one decides.
-    for (due, from, to) in [
-        ("3", "(< 0 15)", "(< 0 1000001)"), ("5", "(< 0 15)", "(< 1 15)"), ("4", "(< 0 15)", &" (< 0 15)".repeat(5)[1..]),
-        ("2", "(place end)", "(place end (< 0 1000001))"), ("2", "(edge 1 2 (<= 0 2))", "(edge 1 9)"),
-    ] {
-        let changed = pattern.replacen("(> 0 5)", "(> 0 ?)", 1).replacen(from, to, 1);
-        cases.add("lost-order", due, changed, record);
-    }
-}
-
-fn changed_losses(random: &mut Random, cases: &mut Cases) {
-    for turn in 0..30 {
-        let (pattern, record) = with_bands(random, tame);
-        let mut pattern_text = pattern.text().into_bytes();
-        let mut record_text = text(&record_lines(&with_losses(random, &pattern, &record))).into_bytes();
-        let changed = if turn % 4 == 0 { &mut pattern_text } else { &mut record_text };
-        for _ in 0..few(random, [0, 70, 20, 10, 0]) {
-            change(random, &[b"????????????????????", ALPHABET].concat(), changed);
-        }
-        cases.add("lost-changed", "-", pattern_text, record_text);
-    }
-}
-
-/// The cases of request R-7. They come last, so the cases before them are what they were.
-fn loss_cases(random: &mut Random, cases: &mut Cases) {
-    losses_by_hand(cases);
-    losses_at_each_tick(cases);
-    losses_at_cuts(cases);
-    each_channel_lost(cases);
-    each_test_lost(cases);
-    losses_beside_zeros(cases);
-    losses_of_end_places(cases);
-    example_losses(cases);
-    long_losses(cases);
-    random_losses(random, cases);
-    faulty_losses(random, cases);
-    losses_counted(random, cases);
-    order_of_refusals(cases);
-    changed_losses(random, cases);
 }
 
 fn stop(message: &str) -> ! {
@@ -2361,7 +1996,6 @@ fn main() {
     faulty_cases(&mut random, &mut cases);
     band_cases(&mut random, &mut cases);
     twitch_cases(&mut random, &mut cases);
-    loss_cases(&mut random, &mut cases);
     for (kind, count) in &cases.kinds {
         println!("{count:6}  {kind}");
     }

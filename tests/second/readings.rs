@@ -1,17 +1,16 @@
-//! Readings of document 01 (the scope paper): the right one, which answers as `scorer.rs` does, and 79 wrong
+//! Readings of document 01 (the scope paper): the right one, which answers as `scorer.rs` does, and 63 wrong
 //! ones, for the statistics.
 //!
-//! Written from document 01 and the decisions recorded beside it, for the bands from request R-1, for the
-//! observations of sum from R-3 and for lost readings from R-7, and from nothing else. It shares no code with
-//! the product or with `scorer.rs`. It has no tables, no ceilings of clocks and no states that stand for many
-//! runs: each run is a begin, its edges and its stays, listed and priced alone. Quoted sentences are document
-//! 01's, where no request is named.
+//! Written from document 01 and the decisions recorded beside it, for the bands from request R-1 and for the
+//! observations of sum from R-3, and from nothing else. It shares no code with the product or with
+//! `scorer.rs`. It has no tables, no ceilings of clocks and no states that stand for many runs: each run is a
+//! begin, its edges and its stays, listed and priced alone. Quoted sentences are document 01's.
 //!
 //!     readings DIR                         answer for DIR/pattern.txt and DIR/record.txt
 //!     readings --many CASES --answers OUT  the answer to each case, into OUT/NUMBER
 //!     readings --many CASES --stats        what occurs in the cases; status 1 if something is missing
 
-use std::collections::{BTreeMap, BTreeSet};
+use std::collections::BTreeMap;
 use std::fmt::Write;
 use std::process::exit;
 
@@ -391,41 +390,27 @@ fn largest_bound(pattern: &Pattern, clock: usize) -> u64 {
 
 // ---------------------------------------------------------------------------------------- the record
 
-/// A piece, with the times where it begins and ends. A reading that was lost (R-7) is `None`.
+/// A piece, with the times where it begins and ends.
 #[derive(Clone)]
 struct Piece {
     from: u64,
     to: u64,
-    values: Vec<Option<i64>>,
-}
-
-impl Piece {
-    fn has_loss(&self) -> bool {
-        self.values.contains(&None)
-    }
-}
-
-/// The form of a value alone: a number, or "A value may now be written `?`" (R-7).
-fn value(form: &Form, slip: Slip) -> Option<Option<i64>> {
-    match form {
-        Form::Word(b"?") if slip != Slip::LostRefused => Some(None),
-        _ => number(form, true).map(Some),
-    }
+    values: Vec<i64>,
 }
 
 /// "lines as `(piece 2 10)`, duration then one or more values, a minus in values only and as in a bound;
 /// over 16,384 bytes is 1, a broken form anywhere 2, then 8, a wrong count of values included". The
 /// pieces are still as they were cut.
-fn read_record(text: &[u8], channels: usize, slip: Slip) -> Result<Vec<Piece>, u8> {
+fn read_record(text: &[u8], channels: usize) -> Result<Vec<Piece>, u8> {
     if text.len() > 16_384 {
         return Err(1);
     }
     let mut pieces = Vec::new();
     for line in lines(text) {
-        let form = || -> Option<(i64, Vec<Option<i64>>)> {
+        let form = || -> Option<(i64, Vec<i64>)> {
             let parts = read_form(line?)?;
             let [Form::Word(b"piece"), duration, values @ ..] = &parts[..] else { return None };
-            let values = values.iter().map(|form| value(form, slip)).collect::<Option<Vec<_>>>()?;
+            let values = values.iter().map(|value| number(value, true)).collect::<Option<Vec<_>>>()?;
             if values.is_empty() { None } else { Some((number(duration, false)?, values)) }
         };
         pieces.push(form().ok_or(2)?);
@@ -438,7 +423,7 @@ fn read_record(text: &[u8], channels: usize, slip: Slip) -> Result<Vec<Piece>, u
     let mut record = Vec::new();
     let mut now = 0;
     for (duration, values) in pieces {
-        let in_range = values.iter().flatten().all(|value| (-1_000_000..=1_000_000).contains(value));
+        let in_range = values.iter().all(|value| (-1_000_000..=1_000_000).contains(value));
         if !(1..=2_147_483_647).contains(&duration) || values.len() != channels || !in_range {
             return Err(8);
         }
@@ -448,38 +433,16 @@ fn read_record(text: &[u8], channels: usize, slip: Slip) -> Result<Vec<Piece>, u
     if now > 2_147_483_647 { Err(8) } else { Ok(record) }
 }
 
-/// "Neighbouring pieces with equal values in every channel are one piece". "Two missing readings count as equal
-/// [...], and a missing one differs from every value read" (R-7).
-fn joined(record: &[Piece], slip: Slip) -> Vec<Piece> {
-    let with_zeros = |piece: &Piece| piece.values.iter().map(|value| value.unwrap_or(0)).collect::<Vec<_>>();
-    let equal = |one: &Piece, other: &Piece| match slip {
-        Slip::LostJoinsZero => with_zeros(one) == with_zeros(other),
-        _ => one.values == other.values,
-    };
+/// "Neighbouring pieces with equal values in every channel are one piece".
+fn joined(record: &[Piece]) -> Vec<Piece> {
     let mut pieces: Vec<Piece> = Vec::new();
     for piece in record {
         match pieces.last_mut() {
-            Some(last) if equal(last, piece) => last.to = piece.to,
+            Some(last) if last.values == piece.values => last.to = piece.to,
             _ => pieces.push(piece.clone()),
         }
     }
     pieces
-}
-
-/// The record under the slips that read a value where one was lost: 0, or the channel's last one.
-fn made_up(record: &[Piece], slip: Slip) -> Vec<Piece> {
-    let mut record = record.to_vec();
-    let mut before = [0; 8];
-    for piece in &mut record {
-        for (value, before) in piece.values.iter_mut().zip(&mut before) {
-            let read = value.unwrap_or(*before);
-            *value = Some(read);
-            if slip == Slip::LostIsLastRead {
-                *before = read;
-            }
-        }
-    }
-    record
 }
 
 // ------------------------------------------------------------------------------------------ the runs
@@ -555,23 +518,6 @@ enum Slip {
     LowAboveHighIs5,     // it is refused with 5
     LowAboveHighBefore4, // it is refused with 3, and before a test too many
     LowAboveHighAfter5,  // it is refused with 3, but after an index that the pattern lacks
-    // Of lost readings (R-7):
-    LostIsZero,          // one is read as 0
-    LostIsLastRead,      // it is read as the channel's last value, as 0 if there is none
-    LostJoinsZero,       // it equals 0 when pieces are joined, and the first piece stands for both
-    LostClosesAll,       // it closes every place
-    LostClosesTested,    // it closes every place that has tests
-    LostByFirstTest,     // it closes a place only if its first test is of that channel
-    LostClosesFirst,     // a place is closed at the first tick of a stay only
-    LostClosesLater,     // it is closed at the later ticks only
-    LostClosesLast,      // it is closed at the last tick only
-    LostClosesEnd,       // a run cannot end in a place that is closed at the run's last tick
-    LostStopsRuns,       // a loss stops every run that began before its piece
-    LostUnpriced,        // a run goes on, and what is lost is not priced
-    LostPricedZero,      // a run goes on, and the distance is 0
-    LostSplits,          // in sum an observation ends where an untested channel is lost or comes back
-    LostNeverAgrees,     // so it does, and each tick of the loss is another one
-    LostRefused,         // `?` is a broken form
 }
 
 const SLIPS: [Slip; 28] = [
@@ -638,7 +584,7 @@ const SUM_SLIPS: [Slip; 17] = [
 ];
 
 /// Those that make a difference only in whether a text is refused, and with which number.
-const TEXT_SLIPS: [Slip; 12] = [
+const TEXT_SLIPS: [Slip; 11] = [
     Slip::BandIsTwoTests,
     Slip::BandIsNoTest,
     Slip::BandInEdge,
@@ -650,30 +596,10 @@ const TEXT_SLIPS: [Slip; 12] = [
     Slip::LowAboveHighIs5,
     Slip::LowAboveHighBefore4,
     Slip::LowAboveHighAfter5,
-    Slip::LostRefused,
-];
-
-/// Those that make no difference where no reading is lost.
-const LOST_SLIPS: [Slip; 15] = [
-    Slip::LostIsZero,
-    Slip::LostIsLastRead,
-    Slip::LostJoinsZero,
-    Slip::LostClosesAll,
-    Slip::LostClosesTested,
-    Slip::LostByFirstTest,
-    Slip::LostClosesFirst,
-    Slip::LostClosesLater,
-    Slip::LostClosesLast,
-    Slip::LostClosesEnd,
-    Slip::LostStopsRuns,
-    Slip::LostUnpriced,
-    Slip::LostPricedZero,
-    Slip::LostSplits,
-    Slip::LostNeverAgrees,
 ];
 
 /// One stay of a run: in a place, over the ticks from one time to another.
-#[derive(Clone, Copy, PartialEq, Eq, PartialOrd, Ord)]
+#[derive(Clone, Copy)]
 struct Stay {
     place: usize,
     from: u64,
@@ -700,12 +626,8 @@ struct Scorer<'a> {
     pieces: Vec<Piece>,
     /// For each place and piece, whether a stay there that has seen the piece before begins a new observation.
     anew: Vec<Vec<bool>>,
-    /// For each place, the pieces during which it cannot be stayed in (R-7).
-    closed: Vec<Vec<usize>>,
     /// For the statistics: how many pieces before this one a stay of a run has seen in that place, at most.
     seen_before: Vec<Vec<usize>>,
-    /// For the statistics, where a reading is lost: each stay of a run, and its end place as a stay of no tick.
-    listed: BTreeSet<Stay>,
     total: u64,
     slip: Slip,
     /// The best run for each end that has one.
@@ -754,10 +676,6 @@ impl Scorer<'_> {
         let hurry = self.slip(Slip::EdgesWithoutStay) && stays.last().is_some_and(|stay| stay.from < stay.to);
         let shortest = if hurry { 0 } else { 1 };
         for left in now + shortest..=self.total.min(begin + high) {
-            let stay = Stay { place, from: now, to: left };
-            if self.is_closed(begin, &stay) {
-                continue;
-            }
             let grown = clocks.map(|clock| clock + (left - now));
             // "then takes an edge out of that place whose guards all hold";
             for edge in pattern.edges.iter().filter(|edge| edge.from == place) {
@@ -767,12 +685,10 @@ impl Scorer<'_> {
                 }
                 // "then sets the edge's reset clocks to 0."
                 let after = self.after_resets(edge, grown);
-                stays.push(stay);
+                stays.push(Stay { place, from: now, to: left });
                 // "The last edge enters an end place at e exactly. No time passes there."
                 let entered = &pattern.places[edge.to];
-                let last_tick = Stay { place: edge.to, from: left.saturating_sub(1), to: left };
-                let no_end = self.slip(Slip::LostClosesEnd) && self.is_closed(begin, &last_tick);
-                if entered.end && (left - begin >= pattern.low || self.slip(Slip::LowForgotten)) && !no_end {
+                if entered.end && (left - begin >= pattern.low || self.slip(Slip::LowForgotten)) {
                     self.take_run(begin, left, stays, edge.to);
                 }
                 // That edge need not be the last one: a run may also stay in an end place and go on.
@@ -781,35 +697,6 @@ impl Scorer<'_> {
                 }
                 stays.pop();
             }
-        }
-    }
-
-    /// "A place can't be stayed in during a tick where a channel it tests is missing; other places are not
-    /// affected. A run that stays there is no run" (R-7).
-    fn is_closed(&self, begin: u64, stay: &Stay) -> bool {
-        let Stay { place, from, to } = *stay;
-        let (from, to) = match self.slip {
-            Slip::LostClosesFirst => (from, from + 1),
-            Slip::LostClosesLater => (from + 1, to),
-            Slip::LostClosesLast => (to - 1, to),
-            _ => (from, to),
-        };
-        let shares_tick = |piece: &Piece| from.max(piece.from) < to.min(piece.to);
-        let stops = |piece: &Piece| piece.has_loss() && begin < piece.from && shares_tick(piece);
-        self.closed[place].iter().any(|piece| shares_tick(&self.pieces[*piece]))
-            || self.slip(Slip::LostStopsRuns) && self.pieces.iter().any(stops)
-    }
-
-    /// Whether a place is closed during a piece.
-    fn closes(&self, place: usize, piece: usize) -> bool {
-        let (tests, piece) = (&self.pattern.places[place].tests, &self.pieces[piece]);
-        let missing = |test: &Test| piece.values[test.channel].is_none();
-        match self.slip {
-            Slip::LostUnpriced | Slip::LostPricedZero => false,
-            Slip::LostClosesAll => piece.has_loss(),
-            Slip::LostClosesTested => piece.has_loss() && !tests.is_empty(),
-            Slip::LostByFirstTest => tests.first().is_some_and(missing),
-            _ => tests.iter().any(missing),
         }
     }
 
@@ -854,10 +741,6 @@ impl Scorer<'_> {
         self.runs += 1;
         if self.slip(Slip::Right) {
             self.note_pieces(stays);
-            if self.pieces.iter().any(Piece::has_loss) {
-                self.listed.extend(stays);
-                self.listed.insert(Stay { place: entered, from: end, to: end });
-            }
         }
         let score = self.price(stays, entered, end);
         let length = end - begin; // "A run's length is its end minus its begin."
@@ -968,7 +851,6 @@ impl Scorer<'_> {
         };
         let counts = match self.slip {
             Slip::EveryTickCounts => return ticks(),
-            Slip::LostNeverAgrees if self.pieces[piece].has_loss() => return ticks(),
             Slip::PieceCountsOnce | Slip::GoesOnInPlace | Slip::GoesOnAfterReturn if piece == first => {
                 !self.goes_on(stays, at, piece)
             }
@@ -1015,8 +897,7 @@ impl Scorer<'_> {
         let tests = &self.pattern.places[place].tests;
         let differs = |test: &Test| self.changes(piece, test.channel);
         let [before, now] = [piece - 1, piece].map(|at| &self.pieces[at].values);
-        let total = |values: &[Option<i64>]| tests.iter().map(|test| self.distance(test, values)).sum::<i64>();
-        let missing = |values: &[Option<i64>]| values.iter().map(Option::is_none).collect::<Vec<_>>();
+        let total = |values: &[i64]| tests.iter().map(|test| self.distance(test, values)).sum::<i64>();
         match self.slip {
             _ if tests.is_empty() => false,
             Slip::CutsCount | Slip::JoinsWholeSample => true,
@@ -1031,25 +912,18 @@ impl Scorer<'_> {
                 tests.iter().any(|test| self.distance(test, before) != self.distance(test, now))
             }
             Slip::JoinsTotals => total(before) != total(now),
-            Slip::LostSplits | Slip::LostNeverAgrees if missing(before) != missing(now) => true,
             _ => tests.iter().any(differs),
         }
     }
 
     /// "A test's distance is value - bound for `>` and `>=`, bound - value for `<` and `<=`; it may be
-    /// negative, and strict signs measure like the others." Where nothing was read there is none, and only slips
-    /// ask for it: "A channel not read holds value 0" (R-7).
-    fn distance(&self, test: &Test, values: &[Option<i64>]) -> i64 {
-        let of_channel = |channel: usize| values[channel].unwrap_or(0);
-        let value = match (values[test.channel], self.slip) {
-            (None, Slip::LostUnpriced) if !self.pattern.sum => return FREE,
-            (None, Slip::LostUnpriced | Slip::LostPricedZero) => return 0,
-            _ => of_channel(test.channel),
-        };
+    /// negative, and strict signs measure like the others."
+    fn distance(&self, test: &Test, values: &[i64]) -> i64 {
+        let value = values[test.channel];
         let distance = match test.against {
             Against::Bound(Sign::Greater | Sign::GreaterOrEqual, bound) => value - bound,
             Against::Bound(Sign::Less | Sign::LessOrEqual, bound) => bound - value,
-            Against::Band(low, high) if self.slip(Slip::BandOfChannel0) => self.inside(of_channel(0), low, high),
+            Against::Band(low, high) if self.slip(Slip::BandOfChannel0) => self.inside(values[0], low, high),
             Against::Band(low, high) => self.inside(value, low, high),
         };
         let strict = matches!(test.against, Against::Bound(Sign::Less | Sign::Greater, _));
@@ -1109,22 +983,14 @@ impl Scorer<'_> {
 
 /// A reading that has not listed the runs yet.
 fn scorer<'a>(pattern: &'a Pattern, record: &[Piece], slip: Slip) -> Scorer<'a> {
-    let pieces = match slip {
-        Slip::CutsCount => record.to_vec(),
-        Slip::LostIsZero | Slip::LostIsLastRead => joined(&made_up(record, slip), slip),
-        _ => joined(record, slip),
-    };
+    let pieces = if slip == Slip::CutsCount { record.to_vec() } else { joined(record) };
     let seen_before = vec![vec![0; pieces.len()]; pattern.places.len()];
     let total = record.last().map_or(0, |piece| piece.to);
-    let (anew, closed) = (Vec::new(), Vec::new());
-    let (listed, ends, runs, steps) = (BTreeSet::new(), BTreeMap::new(), 0, 0);
-    let mut scorer =
-        Scorer { pattern, pieces, anew, closed, seen_before, listed, total, slip, ends, runs, steps };
+    let (anew, ends) = (Vec::new(), BTreeMap::new());
+    let mut scorer = Scorer { pattern, pieces, anew, seen_before, total, slip, ends, runs: 0, steps: 0 };
     let begins_anew = |place, piece| piece == 0 || scorer.begins_anew(place, piece);
     let of_place = |place| (0..scorer.pieces.len()).map(|piece| begins_anew(place, piece)).collect();
     scorer.anew = (0..pattern.places.len()).map(of_place).collect();
-    let closed = |place| (0..scorer.pieces.len()).filter(|piece| scorer.closes(place, *piece)).collect();
-    scorer.closed = (0..pattern.places.len()).map(closed).collect();
     scorer
 }
 
@@ -1153,7 +1019,7 @@ fn judge(
     faults: &mut Faults,
 ) -> Result<(Pattern, Vec<Piece>), (u8, By)> {
     let pattern = read_pattern(pattern, slip, faults).map_err(|refusal| (refusal, By::Pattern))?;
-    let record = read_record(record, pattern.channels, slip).map_err(|refusal| (refusal, By::Record))?;
+    let record = read_record(record, pattern.channels).map_err(|refusal| (refusal, By::Record))?;
     if cells_needed(&pattern) > 2_048 {
         return Err((11, By::Tables));
     }
@@ -1275,8 +1141,7 @@ fn must_occur() -> Vec<String> {
     }
     names.extend(bands_must_occur());
     names.extend(twitches_must_occur());
-    names.extend(losses_must_occur());
-    let slips = SLIPS.iter().chain(&BAND_SLIPS).chain(&SUM_SLIPS).chain(&TEXT_SLIPS).chain(&LOST_SLIPS);
+    let slips = SLIPS.iter().chain(&BAND_SLIPS).chain(&SUM_SLIPS).chain(&TEXT_SLIPS);
     names.extend(slips.map(|slip| format!("told apart: {slip:?}")));
     names
 }
@@ -1357,61 +1222,6 @@ fn twitches_must_occur() -> Vec<String> {
     names
 }
 
-/// The same of lost readings (R-7). A case with a weighting is answered with a run. A place is closed where a
-/// channel that it tests is missing.
-fn losses_must_occur() -> Vec<String> {
-    let mut names: Vec<String> = [
-        "refused 2, a place",
-        "refused 2, an edge",
-        "refused 2, a line of another kind",
-        "behind the line that is refused",
-        "beside a refused pattern",
-        "refused 1 by the record",
-        "refused 2 by the record",
-        "refused 8 by the record",
-        "refused 11 by the tables",
-        "accepted, but no run",
-    ]
-    .map(|name| format!("lost: {name}"))
-    .to_vec();
-    names.extend([LOST_CASE, LOST_CASE_WITH_RUN, LOST_CASE_OTHERWISE].map(String::from));
-    for weighting in ["margin", "sum"] {
-        let mut must = |name: &str| names.push(format!("lost: {weighting}, {name}"));
-        must("at the first tick");
-        must("at the last tick");
-        must("at every tick");
-        must("at one tick");
-        must("at several ticks in a row");
-        must("the only channel");
-        must("one of several channels");
-        must("several channels, but not all");
-        must("all of several channels");
-        must("0 right before it");
-        must("0 right behind it");
-        must("a cut inside it");
-        must("in a record cut anew");
-        must("the channel of a band");
-        must("a start place is closed");
-        must("a stay in a place that tests other channels");
-        must("a stay in a place without tests");
-        must("a stay while another place is closed");
-        must("a stay until its place closes");
-        must("a stay from where its place opens");
-        must("an end in a place that is closed at the run's last tick");
-        must("an end in a place that is closed from there");
-        (1..=4).for_each(|test| must(&format!("the channel of test {test}")));
-        (0..8).for_each(|channel| must(&format!("channel {channel}, a place is closed")));
-        (0..8).for_each(|channel| must(&format!("channel {channel}, a stay in a place that tests others")));
-    }
-    names
-}
-
-/// The cases made for R-7 that are not refused, those of them with a run, and those that it makes a difference
-/// to.
-const LOST_CASE: &str = "lost: a case of these kinds, not refused";
-const LOST_CASE_WITH_RUN: &str = "lost: a case of these kinds, answered with a run";
-const LOST_CASE_OTHERWISE: &str = "lost: a case of these kinds, with another answer if what is lost is 0";
-
 /// The sums among the cases made for R-3, and those of them that it makes a difference to.
 const SUM_CASE: &str = "twitch: a sum of these kinds";
 const SUM_CASE_OTHERWISE: &str = "twitch: a sum of these kinds, with another answer by the whole sample";
@@ -1430,20 +1240,6 @@ fn has_band(text: &[u8]) -> bool {
     text.windows(4).any(|bytes| bytes == b"(in ")
 }
 
-/// Whether a text has what a lost reading is written as. Where it has not, no reading of R-7 matters.
-fn has_loss(text: &[u8]) -> bool {
-    text.contains(&b'?')
-}
-
-/// What kind of line a line of a pattern is.
-fn line_kind(line: &[u8]) -> &'static str {
-    match line.split(|byte| *byte == b' ').next() {
-        Some(b"(place") => "a place",
-        Some(b"(edge") => "an edge",
-        _ => "a line of another kind",
-    }
-}
-
 /// What a refused case with bands shows of them.
 fn bands_refused(case: &Case, refusal: u8, by: By, faults: &Faults) -> Vec<String> {
     let mut seen = Vec::new();
@@ -1457,7 +1253,12 @@ fn bands_refused(case: &Case, refusal: u8, by: By, faults: &Faults) -> Vec<Strin
         By::Pattern => {
             let lines: Vec<&[u8]> = case.pattern.split(|byte| *byte == b'\n').collect();
             let (line, behind) = (lines[faults.line], &lines[faults.line + 1..]);
-            see(has_band(line), &format!("refused {refusal}, {}", line_kind(line)));
+            let kind = match line.split(|byte| *byte == b' ').next() {
+                Some(b"(place") => "a place",
+                Some(b"(edge") => "an edge",
+                _ => "a line of another kind",
+            };
+            see(has_band(line), &format!("refused {refusal}, {kind}"));
             see(behind.iter().any(|line| has_band(line)), "behind the line that is refused");
             see(lines[..faults.line].iter().any(|line| has_band(line)), "before the line that is refused");
             let (end, above) = (faults.end_out_of_range, faults.low_above_high);
@@ -1499,7 +1300,7 @@ fn bands_answered(pattern: &Pattern, record: &[Piece]) -> Vec<String> {
             see(low == high, "equal ends");
             see(low.abs() == 1_000_000, &format!("low {low}"));
             see(high.abs() == 1_000_000, &format!("high {high}"));
-            for value in record.iter().filter_map(|piece| piece.values[channel]) {
+            for value in record.iter().map(|piece| piece.values[channel]) {
                 see(value < low, "a value below it");
                 see(value == low, "a value at its low");
                 see(value > low && value < high, "a value inside it");
@@ -1575,89 +1376,6 @@ fn twitches_answered(case: &Case, record: &[Piece], right: &Scorer) -> Vec<Strin
     seen
 }
 
-/// What a refused case with a `?` shows of it.
-fn losses_refused(case: &Case, refusal: u8, by: By, faults: &Faults) -> Vec<String> {
-    let mut seen = Vec::new();
-    let mut see = |occurs: bool, name: &str| {
-        if occurs {
-            seen.push(format!("lost: {name}"));
-        }
-    };
-    match by {
-        By::Pattern => {
-            let lines: Vec<&[u8]> = case.pattern.split(|byte| *byte == b'\n').collect();
-            let line = lines[faults.line];
-            see(has_loss(line), &format!("refused {refusal}, {}", line_kind(line)));
-            see(lines[faults.line + 1..].iter().any(|line| has_loss(line)), "behind the line that is refused");
-            see(has_loss(&case.record), "beside a refused pattern");
-        }
-        By::Record => see(true, &format!("refused {refusal} by the record")),
-        By::Tables => see(true, &format!("refused {refusal} by the tables")),
-    }
-    seen
-}
-
-/// What a case that is answered with a run shows of lost readings.
-fn losses_answered(case: &Case, record: &[Piece], right: &Scorer) -> Vec<String> {
-    let (pattern, pieces) = (right.pattern, &right.pieces);
-    let mut seen = Vec::new();
-    let mut see = |occurs: bool, name: &str| {
-        if occurs {
-            seen.push(format!("lost: {}, {name}", if pattern.sum { "sum" } else { "margin" }));
-        }
-    };
-    for (at, piece) in pieces.iter().enumerate().filter(|(_, piece)| piece.has_loss()) {
-        let missing = |channel: &usize| piece.values[*channel].is_none();
-        let missing: Vec<usize> = (0..pattern.channels).filter(missing).collect();
-        see(piece.from == 0, "at the first tick");
-        see(piece.to == right.total, "at the last tick");
-        see(pieces.iter().all(Piece::has_loss), "at every tick");
-        see(true, if piece.to - piece.from == 1 { "at one tick" } else { "at several ticks in a row" });
-        see(record.iter().any(|part| piece.from < part.to && part.to < piece.to), "a cut inside it");
-        see(case.kind.ends_with("cut-anew"), "in a record cut anew");
-        let count = match (missing.len(), pattern.channels) {
-            (1, 1) => "the only channel",
-            (1, _) => "one of several channels",
-            (count, channels) if count < channels => "several channels, but not all",
-            _ => "all of several channels",
-        };
-        see(true, count);
-        let zero = |piece: &Piece| missing.iter().any(|channel| piece.values[*channel] == Some(0));
-        see(at > 0 && zero(&pieces[at - 1]), "0 right before it");
-        see(pieces.get(at + 1).is_some_and(zero), "0 right behind it");
-        for (number, place) in pattern.places.iter().enumerate() {
-            let closed = right.closed[number].contains(&at);
-            see(closed && place.start, "a start place is closed");
-            see(place.bands().any(|(_, channel, ..)| missing.contains(&channel)), "the channel of a band");
-            for (test, Test { channel, .. }) in (1..).zip(&place.tests) {
-                see(missing.contains(channel), &format!("the channel of test {test}"));
-                see(missing.contains(channel), &format!("channel {channel}, a place is closed"));
-            }
-            for Stay { from, to, .. } in right.listed.iter().filter(|stay| stay.place == number) {
-                if from == to {
-                    let [before, behind] = [from - 1, *from].map(|tick| (piece.from..piece.to).contains(&tick));
-                    see(closed && before, "an end in a place that is closed at the run's last tick");
-                    see(closed && behind, "an end in a place that is closed from there");
-                    continue;
-                }
-                see(closed && *to == piece.from, "a stay until its place closes");
-                see(closed && *from == piece.to, "a stay from where its place opens");
-                if *from < piece.to && piece.from < *to {
-                    let another = right.closed.iter().any(|closed| closed.contains(&at));
-                    see(another, "a stay while another place is closed");
-                    let tests = !place.tests.is_empty();
-                    see(!tests, "a stay in a place without tests");
-                    see(tests, "a stay in a place that tests other channels");
-                    for channel in missing.iter().filter(|_| tests) {
-                        see(true, &format!("channel {channel}, a stay in a place that tests others"));
-                    }
-                }
-            }
-        }
-    }
-    seen
-}
-
 /// Whether the runs need be listed under a slip of sums: not if the case lacks what the slip is about.
 fn may_tell(record: &[Piece], right: &Scorer, slip: Slip) -> bool {
     let (places, edges) = (&right.pattern.places, &right.pattern.edges);
@@ -1700,7 +1418,7 @@ fn seen_in(case: &Case) -> (Vec<String>, u64, u64) {
             see(too_many && out_of_range, "one line with causes for 4 and 3");
             see(too_many && no_such_index, "one line with causes for 4 and 5");
             see(out_of_range && no_such_index, "one line with causes for 3 and 5");
-            let faulty = matches!(read_record(&case.record, 1, Slip::Right), Err(1 | 2));
+            let faulty = matches!(read_record(&case.record, 1), Err(1 | 2));
             see(faulty, "refused pattern beside a faulty record");
         }
         Some((refusal, By::Record)) => {
@@ -1715,12 +1433,8 @@ fn seen_in(case: &Case) -> (Vec<String>, u64, u64) {
     if let (Some((refusal, by)), true) = (refused, bands) {
         bands_refused(case, refusal, by, &faults).iter().for_each(|name| see(true, name));
     }
-    let lost = has_loss(&case.pattern) || has_loss(&case.record);
-    if let (Some((refusal, by)), true) = (refused, lost) {
-        losses_refused(case, refusal, by, &faults).iter().for_each(|name| see(true, name));
-    }
     let number = |refused: Option<(u8, By)>| refused.map(|(refusal, _)| refusal);
-    for slip in TEXT_SLIPS.iter().filter(|_| bands || lost) {
+    for slip in TEXT_SLIPS.iter().filter(|_| bands) {
         let wrong = judge(&case.pattern, &case.record, *slip, &mut Faults::default()).err();
         see(number(wrong) != number(refused), &format!("told apart: {slip:?}"));
     }
@@ -1753,7 +1467,7 @@ fn seen_in(case: &Case) -> (Vec<String>, u64, u64) {
         see(pattern.low == 1, "window: low 1");
         see(pattern.low > 1, "window: low over 1");
         see(pattern.low == pattern.high, "window: low equals high");
-        let zeros = record.first().is_some_and(|piece| piece.values.iter().all(|value| *value == Some(0)));
+        let zeros = record.first().is_some_and(|piece| piece.values.iter().all(|value| *value == 0));
         see(zeros && has_run && pattern.sum, "sum, some end has a run, the record begins with zeros");
         see(right.ends.keys().any(|end| *end > pattern.high), "window: some end past high");
         if let Some((_, best)) = right.best_of_all() {
@@ -1781,7 +1495,6 @@ fn seen_in(case: &Case) -> (Vec<String>, u64, u64) {
             }
             bands_answered(pattern, record).iter().for_each(|name| see(true, name));
             twitches_answered(case, record, &right).iter().for_each(|name| see(true, name));
-            losses_answered(case, record, &right).iter().for_each(|name| see(true, name));
             for edge in &pattern.edges {
                 see(true, &format!("answered with a run, an edge with {} guards", edge.guards.len()));
                 see(true, &format!("answered with a run, an edge with {} resets", edge.resets.len()));
@@ -1791,23 +1504,18 @@ fn seen_in(case: &Case) -> (Vec<String>, u64, u64) {
             }
         }
         see(bands && !has_run, "band: accepted, but no run");
-        see(lost && !has_run, "lost: accepted, but no run");
         // Where even the right listing takes long, the slips are not tried.
         let cheap = right.steps + right.total <= SLIP_STEPS;
         let slips = SLIPS.iter().chain(BAND_SLIPS.iter().filter(|_| bands));
         let in_sum = SUM_SLIPS.iter().filter(|slip| pattern.sum && may_tell(record, &right, **slip));
-        let slips = slips.chain(in_sum).chain(LOST_SLIPS.iter().filter(|_| lost));
+        let slips = slips.chain(in_sum);
         let twitch = pattern.sum && case.kind.starts_with("twitch");
         see(twitch, SUM_CASE);
-        let made_for_losses = case.kind.starts_with("lost");
-        see(made_for_losses, LOST_CASE);
-        see(made_for_losses && has_run, LOST_CASE_WITH_RUN);
         for &slip in slips.filter(|_| cheap) {
             let wrong = score(pattern, record, slip);
             let told = !wrong.given_up() && wrong.print() != printed;
             see(told, &format!("told apart: {slip:?}"));
             see(told && twitch && slip == Slip::JoinsWholeSample, SUM_CASE_OTHERWISE);
-            see(told && made_for_losses && slip == Slip::LostIsZero, LOST_CASE_OTHERWISE);
         }
     }
     let meets_expectation = match (&case.expected[..], refused) {
@@ -1852,10 +1560,6 @@ fn statistics(cases: &[Case]) -> bool {
     }
     if counts[SUM_CASE_OTHERWISE] * 3 < counts[SUM_CASE] {
         println!("         ^ R-3 makes a difference in fewer than a third of its sums");
-        well = false;
-    }
-    if counts[LOST_CASE_OTHERWISE] * 3 < counts[LOST_CASE] {
-        println!("         ^ R-7 makes a difference in fewer than a third of its cases");
         well = false;
     }
     for (kind, results) in kinds {

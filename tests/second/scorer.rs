@@ -1,12 +1,11 @@
 // A second scorer for the program `watch` of document 01 (bench margin monitor).
 //
-// It was written from document 01, and from document 02 for bands, for
-// what a sum counts once and for lost readings, by hands that had not
-// seen the product's code. It has no monitor, no tables and no ceilings: for every
-// end it lists every run with real clocks, prices each one by the pricing rule,
-// which has no price for a stay where a tested reading is lost, and keeps the
-// best, of equals the shortest. It is meant to be plainly right, and is fast
-// enough only for small windows and patterns.
+// It was written from document 01, and from document 02 for bands and for
+// what a sum counts once, by hands that had not seen the product's code.
+// It has no monitor, no tables and no ceilings: for every end it lists every run
+// with real clocks, prices each one by the pricing rule, and keeps the best, of
+// equals the shortest. It is meant to be plainly right, and is fast enough only
+// for small windows and patterns.
 //
 // Use: scorer [folder]. The folder holds pattern.txt and record.txt.
 //      scorer --many folders out. Each folder in `folders` so; its answer goes
@@ -183,12 +182,6 @@ impl Line<'_> {
             (true, value) => Ok(-value),
             (false, value) => Ok(value),
         }
-    }
-
-    /// What stands for a value in a record: the value, or `?` alone where the
-    /// reading is lost.
-    fn reading(&mut self) -> Result<Reading, Refusal> {
-        if self.takes(b"?") { Ok(None) } else { self.number_or_minus().map(Some) }
     }
 
     /// One of the four signs `<`, `<=`, `>`, `>=`.
@@ -426,29 +419,25 @@ fn read_edge_line(mut line: Line, pattern: &Pattern) -> Result<Edge, Refusal> {
 // Record
 // ---------------------------------------------------------------------------
 
-/// What a channel has in a piece: the value read, or none if the reading is lost
-/// . A lost one equals a lost one and differs from every value.
-type Reading = Option<i64>;
-
 /// A piece as the record has it: its values hold from time `from` to time
 /// `until`. Equal neighbours stay apart here: no least distance changes by that
 /// (document 01), and sums join within each stay.
 struct Piece {
     from: i64,
     until: i64,
-    values: Vec<Reading>,
+    values: Vec<i64>,
 }
 
 /// The record's text: lines as `(piece 2 10)`, duration then one or more
-/// values, a minus in values only and as in a bound, a value written `?` if it
-/// is lost. Over 16,384 bytes is 1, a broken form anywhere 2, then 8, a
-/// wrong count of values included. An empty record has no pieces.
+/// values, a minus in values only and as in a bound. Over 16,384 bytes is 1, a
+/// broken form anywhere 2, then 8, a wrong count of values included. An empty
+/// record has no pieces.
 fn read_record(text: &[u8], channels: usize) -> Result<Vec<Piece>, Refusal> {
     if text.len() > RECORD_BYTES {
         return Err(TOO_LONG);
     }
     let mut text = text;
-    let mut read: Vec<(i64, Vec<Reading>)> = Vec::new();
+    let mut read: Vec<(i64, Vec<i64>)> = Vec::new();
     while !text.is_empty() {
         read.push(read_piece_line(take_line(&mut text)?)?);
     }
@@ -457,13 +446,13 @@ fn read_record(text: &[u8], channels: usize) -> Result<Vec<Piece>, Refusal> {
 }
 
 /// The form of one line of the record.
-fn read_piece_line(mut line: Line) -> Result<(i64, Vec<Reading>), Refusal> {
+fn read_piece_line(mut line: Line) -> Result<(i64, Vec<i64>), Refusal> {
     line.expects(b"(piece ")?;
     let duration = line.number()?;
     line.expects(b" ")?;
-    let mut values = vec![line.reading()?];
+    let mut values = vec![line.number_or_minus()?];
     while line.takes(b" ") {
-        values.push(line.reading()?);
+        values.push(line.number_or_minus()?);
     }
     line.expects(b")")?;
     line.expects_end()?;
@@ -471,9 +460,9 @@ fn read_piece_line(mut line: Line) -> Result<(i64, Vec<Reading>), Refusal> {
 }
 
 /// A record is up to 4,096 pieces: a duration of at least 1 tick and one value
-/// per channel, -1,000,000 to 1,000,000 or lost. The durations total at most
+/// per channel, -1,000,000 to 1,000,000. The durations total at most
 /// 2,147,483,647. Else refusal 8.
-fn judge_record(pieces: &[(i64, Vec<Reading>)], channels: usize) -> Result<(), Refusal> {
+fn judge_record(pieces: &[(i64, Vec<i64>)], channels: usize) -> Result<(), Refusal> {
     if pieces.len() > MOST_PIECES {
         return Err(BAD_RECORD);
     }
@@ -483,7 +472,7 @@ fn judge_record(pieces: &[(i64, Vec<Reading>)], channels: usize) -> Result<(), R
         if *duration < 1
             || total > i128::from(MOST_TICKS)
             || values.len() != channels
-            || values.iter().flatten().any(|value| !in_range(*value, -MOST_VALUE, MOST_VALUE))
+            || values.iter().any(|value| !in_range(*value, -MOST_VALUE, MOST_VALUE))
         {
             return Err(BAD_RECORD);
         }
@@ -492,7 +481,7 @@ fn judge_record(pieces: &[(i64, Vec<Reading>)], channels: usize) -> Result<(), R
 }
 
 /// Each piece begins where the one before it ends, the first at time 0.
-fn with_times(pieces: Vec<(i64, Vec<Reading>)>) -> Vec<Piece> {
+fn with_times(pieces: Vec<(i64, Vec<i64>)>) -> Vec<Piece> {
     let mut record: Vec<Piece> = Vec::new();
     let mut now: i64 = 0;
     for (duration, values) in pieces {
@@ -534,8 +523,7 @@ fn holds(guard: &Guard, clocks: &Clocks) -> bool {
 }
 
 /// A run over begin b to end e enters a start place at b, all clocks 0. Shows
-/// every run from `begin` to `end` to `visit`, until that says false. The record
-/// is not asked here: pricing finds which of them lost readings forbid.
+/// every run from `begin` to `end` to `visit`, until that says false.
 fn list_runs(pattern: &Pattern, begin: i64, end: i64, visit: &mut dyn FnMut(&[Step]) -> bool) {
     for (place, of_start) in pattern.places.iter().enumerate() {
         let mut run: Vec<Step> = Vec::new();
@@ -594,15 +582,14 @@ fn list_steps<'a>(
 
 /// A test's distance is value - bound for `>` and `>=`, bound - value for `<`
 /// and `<=`; it may be negative, and strict signs measure like the others. In a
-/// band the nearer end counts, and a value outside is negative. A lost reading
-/// has no distance.
-fn distance(test: &Test, values: &[Reading]) -> Option<i64> {
-    let value = values[test.channel]?;
-    Some(match test.measure {
+/// band the nearer end counts, and a value outside is negative.
+fn distance(test: &Test, values: &[i64]) -> i64 {
+    let value = values[test.channel];
+    match test.measure {
         Measure::Bound(Sign::Greater | Sign::GreaterOrEqual, bound) => value - bound,
         Measure::Bound(Sign::Less | Sign::LessOrEqual, bound) => bound - value,
         Measure::Band(low, high) => (value - low).min(high - value),
-    })
+    }
 }
 
 /// The pieces that a stay touches: those that share a tick with it.
@@ -619,28 +606,25 @@ fn agree(tests: &[Test], one: &Piece, other: &Piece) -> bool {
 }
 
 /// The distance of each test at one piece.
-fn distances(tests: &[Test], piece: &Piece) -> impl Iterator<Item = Option<i64>> {
+fn distances(tests: &[Test], piece: &Piece) -> impl Iterator<Item = i64> {
     tests.iter().map(|test| distance(test, &piece.values))
 }
 
 /// In margin a stay is worth the least distance over its tests and the pieces
 /// it touches; a stay without tests is worth 2,000,001 (document 01). In sum
 /// each of its observations adds what every test measures, once; without tests
-/// that is 0. None if a distance is none: a place can't be stayed in during
-/// a tick where a channel it tests is missing.
-fn stay_worth(pattern: &Pattern, record: &[Piece], step: &Step) -> Option<i64> {
+/// that is 0.
+fn stay_worth(pattern: &Pattern, record: &[Piece], step: &Step) -> i64 {
     let tests = &pattern.places[step.edge.from].tests;
     let pieces = touched(record, step.from, step.until);
     match pattern.weighting {
         Weighting::Margin => {
-            // None is below every distance, so it is the least wherever it occurs.
-            pieces.iter().flat_map(|piece| distances(tests, piece)).min().unwrap_or(Some(NO_TESTS))
+            pieces.iter().flat_map(|piece| distances(tests, piece)).min().unwrap_or(NO_TESTS)
         }
         Weighting::Sum => {
             // neighbours that agree are one observation. The ticks of one
             // piece always do, so it is enough to look at pieces; those of one
-            // observation have the same distances, so its first is priced. A sum
-            // with a none in it is none.
+            // observation have the same distances, so its first is priced.
             let observations = pieces.chunk_by(|piece, next| agree(tests, piece, next));
             observations.flat_map(|observation| distances(tests, &observation[0])).sum()
         }
@@ -648,11 +632,10 @@ fn stay_worth(pattern: &Pattern, record: &[Piece], step: &Step) -> Option<i64> {
 }
 
 /// In margin a run is worth the least of its stays; in sum a run adds its stays.
-/// None if one of them is none, as in a stay: then it is no run.
-fn run_worth(pattern: &Pattern, record: &[Piece], run: &[Step]) -> Option<i64> {
+fn run_worth(pattern: &Pattern, record: &[Piece], run: &[Step]) -> i64 {
     let stays = run.iter().map(|step| stay_worth(pattern, record, step));
     match pattern.weighting {
-        Weighting::Margin => stays.min().unwrap_or(Some(NO_TESTS)),
+        Weighting::Margin => stays.min().unwrap_or(NO_TESTS),
         Weighting::Sum => stays.sum(),
     }
 }
@@ -708,9 +691,7 @@ fn best_of_end(pattern: &Pattern, record: &[Piece], end: i64) -> Option<Report> 
             break; // a run begins inside the record
         }
         list_runs(pattern, begin, end, &mut |run| {
-            let Some(score) = run_worth(pattern, record, run) else {
-                return true; // no run
-            };
+            let score = run_worth(pattern, record, run);
             if best.is_none_or(|held| better(pattern.weighting, score, held.score)) {
                 best = Some(Report { end, begin, score });
             }
@@ -720,12 +701,11 @@ fn best_of_end(pattern: &Pattern, record: &[Piece], end: i64) -> Option<Report> 
     best
 }
 
-/// The first end that can have a run in the window, if the record has one.
-/// Guards ask clocks alone, and tests only price, so while no reading is lost
-/// whether there is a run over b to e depends on e - b alone: the first end is
-/// the least length of the window that has a run, begun at 0, and ends before it
-/// have no line. Lost readings only take runs away, so these ends have none
-/// then either. A pattern without a start, an end or an edge never has a run.
+/// The first end that has a run in the window, if the record has one. Guards
+/// ask clocks alone, and tests only price, so whether there is a run over b to
+/// e depends on e - b alone: the first end is the least length of the window
+/// that has a run, begun at 0, and ends before it have no line. A pattern
+/// without a start, an end or an edge never has a run.
 fn first_end(pattern: &Pattern, total: i64) -> Option<i64> {
     if !pattern.places.iter().any(|place| place.start)
         || !pattern.places.iter().any(|place| place.end)

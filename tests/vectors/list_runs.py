@@ -46,12 +46,8 @@ class Pattern:
         return [distance(sign, values[c], bounds) for sign, c, bounds in self.places[place][1]]
 
     def seen(self, place, values):
-        """What a stay in a place sees: the values in the channels that the place tests, None for one that is lost."""
+        """What a stay in a place sees: the values in the channels that the place tests."""
         return [values[c] for _, c, _ in self.places[place][1]]
-
-    def closed(self, place, values):
-        """Nobody can stay in a place while it does not see all of them."""
-        return None in self.seen(place, values)
 
     def better(self, a, b):
         return a > b if self.margin else a < b
@@ -100,7 +96,7 @@ class Runs:
         """One tick, and the values of the tick before; the reported score and length."""
         p, after, ended = self.p, [], []
         for length, stage, place, clocks, worth in self.runs:
-            if length == p.high or p.closed(place, values):
+            if length == p.high:
                 continue
             grown = tuple(c + 1 for c in clocks)
             worth = p.stayed(worth, place, values, stage == 0 or p.seen(place, values) != p.seen(place, before))
@@ -133,34 +129,23 @@ def empties(p):
     return [(0, 0, place, (0,) * p.clocks, p.empty) for place in p.starts]
 
 
-def values_fault(count, values, read):
-    return (len(values) != count or len(read) != count or any(abs(v) > VALUE for v in values)
-            or any(v != 0 and r == 0 for v, r in zip(values, read)))
-
-
-def record_fault(p, lent):
-    durations = lent["durations"]
+def record_fault(p, durations, values):
     return (len(durations) > 4096 or min(durations, default=1) < 1 or sum(durations) > TICKS
-            or values_fault(len(durations) * p.channels, lent["values"], lent["read"]))
+            or len(values) != len(durations) * p.channels or any(abs(v) > VALUE for v in values))
 
 
-def sample_of(values, read):
-    return [v if r else None for v, r in zip(values, read)]
-
-
-def pieces_of(p, lent):
-    sample = sample_of(lent["values"], lent["read"])
-    return [(d, sample[i * p.channels:(i + 1) * p.channels]) for i, d in enumerate(lent["durations"])]
+def pieces_of(p, durations, values):
+    return [(d, values[i * p.channels:(i + 1) * p.channels]) for i, d in enumerate(durations)]
 
 
 def price(p, lent):
     edges, stays, total = lent["edges"], lent["stays"], sum(lent["durations"])
-    if record_fault(p, lent):
+    if record_fault(p, lent["durations"], lent["values"]):
         return [8, 0], {}
     if len(edges) != len(stays) or not 1 <= len(edges) <= 4095 or lent["begin"][0] >= total:
         return [9, 0], {}
     pieces, end = [], 0  # first tick, end, values
-    for d, v in pieces_of(p, lent):
+    for d, v in pieces_of(p, lent["durations"], lent["values"]):
         pieces.append((end, end + d, v))
         end += d
     now, place, clocks, worth = lent["begin"][0], None, [0] * p.clocks, p.empty
@@ -173,8 +158,6 @@ def price(p, lent):
         seen = None
         for begin, end, values in pieces:
             if begin < now + stay and now < end:
-                if p.closed(source, values):
-                    return [10, 0], {}
                 worth = p.stayed(worth, source, values, seen != p.seen(source, values))
                 seen = p.seen(source, values)
         clocks = [c + stay for c in clocks]
@@ -197,30 +180,25 @@ def too_short(p, lent):
 def open_monitor(p, lent):
     if too_short(p, lent):
         return [11], {}
-    if len(lent["state"]) < 17:
+    if len(lent["state"]) < 9:
         return [12], {}
     after = left_by(p, Runs(p, empties(p)), lent["first"], lent["second"])
-    after["state"] = [0] * 9 + [1] * 8 + lent["state"][17:]
+    after["state"] = [0] * 9 + lent["state"][9:]
     return [0], after
 
 
 def state_fault(p, state):
-    if len(state) < 17:
-        return True
-    values, read = state[1:9], state[9:17]
-    return (not 0 <= state[0] <= TICKS or values_fault(8, values, read)
-            or any(values[p.channels:]) or not all(read[p.channels:])
-            or (state[0] == 0 and (any(values) or not all(read))))
+    return (len(state) < 9 or not 0 <= state[0] <= TICKS or any(abs(v) > VALUE for v in state[1:9])
+            or any(state[1 + p.channels:9]) or (state[0] == 0 and any(state[1:9])))
 
 
 def feed(p, lent):
-    state, first, duration, values, read = (lent["state"], lent["first"], lent["duration"][0], lent["values"],
-                                            lent["read"])
+    state, first, duration, values = lent["state"], lent["first"], lent["duration"][0], lent["values"]
     if state_fault(p, state):
         return [12], {}
     if too_short(p, lent):
         return [11], {}
-    if not 1 <= duration <= PIECE or values_fault(p.channels, values, read):
+    if not 1 <= duration <= PIECE or len(values) != p.channels or any(abs(v) > VALUE for v in values):
         return [8], {}
     if state[0] + duration > TICKS:
         return [13], {}
@@ -229,23 +207,21 @@ def feed(p, lent):
     if len(lent["scores"]) < duration or len(lent["lengths"]) < duration:
         return [6], {}
     runs = Runs(p, [p.run_at(i) + (worth,) for i, worth in enumerate(first[:p.cells]) if worth != MARK])
-    sample, last = sample_of(values, read), sample_of(state[1:1 + p.channels], state[9:])
-    reports = [runs.tick(sample, sample if i else last) for i in range(duration)]
+    reports = [runs.tick(values, values if i else state[1:1 + p.channels]) for i in range(duration)]
     after = left_by(p, runs, first, lent["second"])
-    after["state"] = ([state[0] + duration] + values + [0] * (8 - p.channels)
-                      + [int(r != 0) for r in read] + [1] * (8 - p.channels) + state[17:])
+    after["state"] = [state[0] + duration] + values + [0] * (8 - p.channels) + state[9:]
     after["scores"] = [s for s, _ in reports] + lent["scores"][duration:]
     after["lengths"] = [n for _, n in reports] + lent["lengths"][duration:]
     return [0], after
 
 
 def best(p, lent):
-    if record_fault(p, lent):
+    if record_fault(p, lent["durations"], lent["values"]):
         return [8, 0, 0, 0, 0], {}
     if too_short(p, lent):
         return [11, 0, 0, 0, 0], {}
     runs, last, now, found = Runs(p, empties(p)), [0] * p.channels, 0, None
-    for duration, values in pieces_of(p, lent):
+    for duration, values in pieces_of(p, lent["durations"], lent["values"]):
         # after high + 1 ticks of a piece every run began in it: each further tick finds the same runs, later
         for i in range(min(duration, p.high + 2)):
             score, length = runs.tick(values, values if i else last)
@@ -257,16 +233,16 @@ def best(p, lent):
 
 
 CALLS = {
-    "price": (price, ["durations", "values", "read", "begin", "edges", "stays"], []),
+    "price": (price, ["durations", "values", "begin", "edges", "stays"], []),
     "open": (open_monitor, ["state", "first", "second"], ["state", "first", "second"]),
-    "feed": (feed, ["state", "first", "second", "duration", "values", "read", "scores", "lengths"],
+    "feed": (feed, ["state", "first", "second", "duration", "values", "scores", "lengths"],
              ["state", "first", "second", "scores", "lengths"]),
-    "best": (best, ["durations", "values", "read", "first", "second"], ["first", "second"]),
+    "best": (best, ["durations", "values", "first", "second"], ["first", "second"]),
 }
 
 
 def number(word):
-    return MARK if word == "mark" else None if word == "?" else int(word)
+    return MARK if word == "mark" else int(word)
 
 
 def numbers(words):
@@ -283,18 +259,6 @@ def numbers(words):
     return [number(w) for w in words]
 
 
-def flags_of(values):
-    return [int(v is not None) for v in values]
-
-
-def part_of(part, words):
-    """A slice; nine numbers of a state stand for seventeen."""
-    found = numbers(words[words[0] == "bare":])
-    if part == "state" and len(found) == 9 and words[0] != "bare":
-        found = [v or 0 for v in found] + flags_of(found[1:])
-    return found
-
-
 def answer_of(call, words):
     rest = [int(w) for w in words[1:]]
     answer = {"refused": rest, "score": [0] + rest, "run": [0, 1] + rest, "none": [0], "done": [0]}[words[0]]
@@ -302,7 +266,7 @@ def answer_of(call, words):
 
 
 def shown(numbers, fill=MARK):
-    if len(numbers) < 18:
+    if len(numbers) < 10:
         return " ".join(map(str, numbers))
     return f"{len(numbers)} of {'mark' if fill == MARK else fill} " + " ".join(
         f"{i}:{n}" for i, n in enumerate(numbers) if n != fill)
@@ -312,16 +276,11 @@ def check_case(title, items, texts, left):
     call, name, *weighing = items[0]
     work_out, parts, after_parts = CALLS[call]
     p = Pattern(texts[name].replace("WEIGHING", (weighing or [""])[0]))
-    lent, rest = {}, items[1:]
-    for part in parts:
-        if part == "read" and rest[0][0] != "read":
-            lent["read"] = flags_of(lent["values"])
-            continue
-        words = rest.pop(0)
+    lent = {}
+    for part, words in zip(parts, items[1:]):
         assert part == words[0], (title, part, words)
-        lent[part] = list(left[part]) if words[1:] == ["as", "left"] else part_of(part, words[1:])
-    if "values" in lent:
-        lent["values"] = [v or 0 for v in lent["values"]]
+        lent[part] = list(left[part]) if words[1:] == ["as", "left"] else numbers(words[1:])
+    rest = items[1 + len(parts):]
     assert len(rest) == 1 + len(after_parts), title
     answer, after = work_out(p, lent)
     faults = []
@@ -330,7 +289,7 @@ def check_case(title, items, texts, left):
     for part, words in zip(after_parts, rest[1:]):
         assert part == words[0], (title, part, words)
         is_there = after.get(part, lent[part])
-        if is_there != (lent[part] if words[1:] == ["unchanged"] else part_of(part, words[1:])):
+        if is_there != (lent[part] if words[1:] == ["unchanged"] else numbers(words[1:])):
             faults.append(f"{part} {shown(is_there)}")
         left[part] = is_there
     for fault in faults:

@@ -20,7 +20,7 @@
 
 /* ---- the interface: what each function is lent, in the order of its parameters */
 
-enum part { TEXT, STATE, FIRST, SECOND, DURATION, DURATIONS, VALUES, READ, BEGIN, EDGES, STAYS, SCORES, LENGTHS, PARTS };
+enum part { TEXT, STATE, FIRST, SECOND, DURATION, DURATIONS, VALUES, BEGIN, EDGES, STAYS, SCORES, LENGTHS, PARTS };
 
 enum type { U8, U32, I32, I64 };
 
@@ -33,10 +33,9 @@ static const struct {
     [TEXT] = {"text", U8, 0, 0},           [STATE] = {"state", I64, 1, 0},
     [FIRST] = {"first", I64, 1, 0},        [SECOND] = {"second", I64, 1, 0},
     [DURATION] = {"duration", U32, 0, 1},  [DURATIONS] = {"durations", U32, 0, 0},
-    [VALUES] = {"values", I32, 0, 0},      [READ] = {"read", U8, 0, 0},
-    [BEGIN] = {"begin", U32, 0, 1},        [EDGES] = {"edges", U32, 0, 0},
-    [STAYS] = {"stays", U32, 0, 0},        [SCORES] = {"scores", I64, 1, 0},
-    [LENGTHS] = {"lengths", U32, 1, 0},
+    [VALUES] = {"values", I32, 0, 0},      [BEGIN] = {"begin", U32, 0, 1},
+    [EDGES] = {"edges", U32, 0, 0},        [STAYS] = {"stays", U32, 0, 0},
+    [SCORES] = {"scores", I64, 1, 0},      [LENGTHS] = {"lengths", U32, 1, 0},
 };
 
 static const struct {
@@ -49,12 +48,12 @@ enum call { PRICE, OPEN, FEED, BEST, CALLS };
 
 static const struct {
     const char *name;
-    enum part lent[9]; /* up to the first TEXT, which every call has first */
+    enum part lent[8]; /* up to the first TEXT, which every call has first */
 } calls[CALLS] = {
-    [PRICE] = {"price", {DURATIONS, VALUES, READ, BEGIN, EDGES, STAYS}},
+    [PRICE] = {"price", {DURATIONS, VALUES, BEGIN, EDGES, STAYS}},
     [OPEN] = {"open", {STATE, FIRST, SECOND}},
-    [FEED] = {"feed", {STATE, FIRST, SECOND, DURATION, VALUES, READ, SCORES, LENGTHS}},
-    [BEST] = {"best", {DURATIONS, VALUES, READ, FIRST, SECOND}},
+    [FEED] = {"feed", {STATE, FIRST, SECOND, DURATION, VALUES, SCORES, LENGTHS}},
+    [BEST] = {"best", {DURATIONS, VALUES, FIRST, SECOND}},
 };
 
 /* ---- a data file, item by item: an item is a line, or a part of one up to a semicolon */
@@ -161,8 +160,6 @@ struct list {
     int64_t *numbers;
 };
 
-#define LOST (INT64_MIN + 1000) /* what `?` is, until its flag stands beside it */
-
 static int64_t number_of(const char *word, enum type type, int line)
 {
     char *end;
@@ -170,11 +167,9 @@ static int64_t number_of(const char *word, enum type type, int line)
 
     if (type == I64 && strcmp(word, "mark") == 0)
         return CELL_MARK;
-    if ((type == I32 || type == I64) && strcmp(word, "?") == 0)
-        return LOST;
     n = strtoll(word, &end, 10);
     if (end == word || *end || n < types[type].least || n > types[type].most ||
-        (n == INT64_MAX && strcmp(word, "9223372036854775807") != 0) || n == INT64_MIN || n == LOST)
+        (n == INT64_MAX && strcmp(word, "9223372036854775807") != 0) || n == INT64_MIN)
         broken(line, "no such number", word);
     return n;
 }
@@ -231,27 +226,6 @@ static struct list list_of(char *words, enum type type, int line)
     }
     l.numbers = realloc(l.numbers, l.count * sizeof *l.numbers);
     return l;
-}
-
-static int has_lost(const struct list *l)
-{
-    for (size_t i = 0; i < l->count; i++)
-        if (l->numbers[i] == LOST)
-            return 1;
-    return 0;
-}
-
-/* The flags of a list's values, from a place on: 0 for each `?`, which is a value of 0, and 1 for each number. */
-static struct list flags_of(struct list *l, size_t from)
-{
-    struct list read = {l->count - from, room_for(l->count - from, sizeof *read.numbers)};
-
-    for (size_t i = 0; i < read.count; i++) {
-        read.numbers[i] = l->numbers[from + i] != LOST;
-        if (read.numbers[i] == 0)
-            l->numbers[from + i] = 0;
-    }
-    return read;
 }
 
 /* ---- texts of patterns: blocks `text NAME` of lines `|..`, in which WEIGHING stands for `margin` or `sum` */
@@ -345,44 +319,17 @@ static int lent_part(enum call call, int i, enum part *part)
     return *part != TEXT;
 }
 
-/* What a part's words say. Nine numbers of a state stand for seventeen, the flags behind them; `bare` are those nine alone. */
-static struct list part_of(char *words, enum part part, int line)
-{
-    int bare = part == STATE && strncmp(words, "bare ", 5) == 0;
-    struct list l = list_of(bare ? words + 5 : words, parts[part].type, line);
-
-    if (part == STATE && l.count == 9 && !bare) {
-        struct list read = flags_of(&l, 1);
-
-        l.count = 9 + read.count;
-        l.numbers = realloc(l.numbers, l.count * sizeof *l.numbers);
-        if (!l.numbers)
-            lend_fault("no memory");
-        memcpy(l.numbers + 9, read.numbers, read.count * sizeof *l.numbers);
-        free(read.numbers);
-    }
-    if (part != VALUES && has_lost(&l))
-        broken(line, "no value can be lost here", parts[part].name);
-    return l;
-}
-
 static void read_lent(struct one_case *c, enum part part)
 {
     int line = line_now();
     char *words = words_of(parts[part].name);
 
-    if (!words && part == READ) { /* the values say it */
-        c->lent[READ] = flags_of(&c->lent[VALUES], 0);
-        return;
-    }
     if (!words)
         broken(line, "here must be said what is lent", parts[part].name);
     if (strcmp(words, "as left") == 0 && (part == STATE || part == FIRST || part == SECOND))
         c->as_left[part] = 1;
     else
-        c->lent[part] = part_of(words, part, line);
-    if (part == READ && has_lost(&c->lent[VALUES]))
-        broken(line, "the flags are said twice", NULL);
+        c->lent[part] = list_of(words, parts[part].type, line);
     if (parts[part].single && c->lent[part].count != 1)
         broken(line, "one number is due", parts[part].name);
 }
@@ -397,7 +344,7 @@ static void read_after(struct one_case *c, enum part part)
     if (strcmp(words, "unchanged") == 0)
         c->unchanged[part] = 1;
     else
-        c->after[part] = part_of(words, part, line);
+        c->after[part] = list_of(words, parts[part].type, line);
 }
 
 /* An answer's numbers, from place `from` on. */
@@ -548,8 +495,8 @@ static void lend_part(enum part part, const struct list *l, int where)
 static void make_call(const struct one_case *c, int64_t *answer)
 {
     if (c->call == PRICE) {
-        struct run_price r = run_price(SLICE(TEXT), SLICE(DURATIONS), SLICE(VALUES), SLICE(READ),
-                                       (uint32_t)c->lent[BEGIN].numbers[0], SLICE(EDGES), SLICE(STAYS));
+        struct run_price r = run_price(SLICE(TEXT), SLICE(DURATIONS), SLICE(VALUES), (uint32_t)c->lent[BEGIN].numbers[0],
+                                       SLICE(EDGES), SLICE(STAYS));
 
         answer[0] = r.refusal;
         answer[1] = r.score;
@@ -557,11 +504,9 @@ static void make_call(const struct one_case *c, int64_t *answer)
         answer[0] = monitor_open(SLICE(TEXT), SLICE(STATE), SLICE(FIRST), SLICE(SECOND));
     } else if (c->call == FEED) {
         answer[0] = monitor_feed(SLICE(TEXT), SLICE(STATE), SLICE(FIRST), SLICE(SECOND),
-                                 (uint32_t)c->lent[DURATION].numbers[0], SLICE(VALUES), SLICE(READ), SLICE(SCORES),
-                                 SLICE(LENGTHS));
+                                 (uint32_t)c->lent[DURATION].numbers[0], SLICE(VALUES), SLICE(SCORES), SLICE(LENGTHS));
     } else {
-        struct record_best r = record_best(SLICE(TEXT), SLICE(DURATIONS), SLICE(VALUES), SLICE(READ), SLICE(FIRST),
-                                           SLICE(SECOND));
+        struct record_best r = record_best(SLICE(TEXT), SLICE(DURATIONS), SLICE(VALUES), SLICE(FIRST), SLICE(SECOND));
 
         answer[0] = r.refusal;
         answer[1] = r.found;

@@ -10,8 +10,7 @@ use lib.IntN.{ℤ}
 use Rattle.pattern.specs.declared.Pattern.{Pattern}
 use Rattle.pattern.specs.declared.Refusal.TheVariants.{UnsoundPattern, BrokenRecord, TableTooShort}
 use Rattle.pattern.specs.Sound.{sound_of}
-use Rattle.record.specs.Reading.{readings}
-use Rattle.record.specs.Record.{Book, lent_sound, pieces_of, ticks_of, book_of}
+use Rattle.record.specs.Record.{Book, record_sound, pieces_of, ticks_of, book_of}
 use Rattle.record.specs.Worth.{price_of}
 use Rattle.record.proofs.PriceLaws.{priced_parts}
 use Rattle.monitor.specs.Open.{first_cause, table_too_short}
@@ -47,7 +46,7 @@ module _ (p : Pattern) (b : Book) where
   pub ends-inside : (begin end : ℕ) (w : ℤ) → RunFrom p b begin end w → end ≤ length b
   ends-inside begin end w r =
       let k = priced_parts p b begin r.run.steps w r.run.price in
-      let low = k.inside in
+      let low = k.1 in
       let l = r.run.lasts in
       let e = r.run.ends in
       omega arith
@@ -64,19 +63,19 @@ module _ (p : Pattern) (b : Book) where
       }
 
 pub best_answers : BestAnswers
-best_answers p ds vs fs t u e =
-    let k = causes p ds vs fs (length t) (length u) e in
+best_answers p ds vs t u e =
+    let k = causes p ds vs (length t) (length u) e in
     let sound = (open_parts p (length t) (length u) k.1).0 in
-    let b = book_of p.channels ds (readings vs fs) in
+    let b = book_of p.channels ds vs in
     rw e (said p b (chosen_of p b) (best_of_record p sound b))
 
 pub nothing-in-nothing : NothingInNothing
 unfolding book_of pieces_of ticks_of chosen_to
-nothing-in-nothing p vs fs t u e = rw e
+nothing-in-nothing p vs t u e = rw e
 
 pub best_numbers_lem : BestNumbers
 unfolding best_refusal
-best_numbers_lem p ds vs fs t u = by (not (sound_of p)) (not (lent_sound p.channels ds vs fs)) (table_too_short p (length t) (length u)) (chosen_of p (book_of p.channels ds (readings vs fs)))
+best_numbers_lem p ds vs t u = by (not (sound_of p)) (not (record_sound p.channels ds vs)) (table_too_short p (length t) (length u)) (chosen_of p (book_of p.channels ds vs))
   where
     by : (x y z : Bool) (o : Option Chosen)
         → found_as (answered (first_cause ((x, UnsoundPattern) ∷ (y, BrokenRecord) ∷ (z, TableTooShort) ∷ [])) o)

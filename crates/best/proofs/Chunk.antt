@@ -4,7 +4,7 @@ use Prim.Native.Nat.{ℕ, ◌+◌, ◌-◌, ◌≤◌, ◌<◌}
 use native.Mathlib.Omega.{arith}
 use mathlib.Core.Path.{◌≡◌, refl, sym, ap, subst, ◌∙◌}
 use mathlib.Core.List.{List, ◌++◌, append_assoc, Memᴰ}
-use mathlib.Core.Option.{Option, none}
+use mathlib.Core.Option.{Option, none, some}
 use mathlib.Core.Bool.{true}
 use borrow.Author.Tests.{eq-eqb, le-leb, le-ltb}
 use lib.ListN.{length, get_or, replicate, length-append, length-replicate}
@@ -12,13 +12,11 @@ use lib.IntN.{ℤ, pos}
 use Rattle.weighting.specs.Weightings.{weighting_of}
 use Rattle.pattern.specs.declared.Pattern.{Pattern}
 use Rattle.pattern.specs.declared.Refusal.{Refusal}
-use Rattle.pattern.specs.Slots.{all}
 use Rattle.pattern.specs.Sound.{sound_of}
 use Rattle.pattern.specs.Clocks.{Clocks}
 use Rattle.pattern.specs.Cells.{cells_needed}
-use Rattle.record.specs.Reading.{Sample, read_sound}
-use Rattle.record.specs.Record.{Book, value_in_range}
-use Rattle.record.proofs.ReadingLaws.{readings-values, read_length, length-readings}
+use Rattle.pattern.specs.Distance.{Sample}
+use Rattle.record.specs.Record.{Book}
 use Rattle.walks.specs.Automaton.{State as Place}
 use Rattle.walks.specs.Tables.{Table}
 use Rattle.walks.proofs.Cut.{only-passed}
@@ -29,12 +27,12 @@ use Rattle.monitor.specs.Cells.{cell_states, held_by, written}
 use Rattle.monitor.specs.Tick.{open_table, score_in, length_in, report_of}
 use Rattle.monitor.specs.State.{piece_later}
 use Rattle.monitor.specs.Open.{unless_refused, marks}
-use Rattle.monitor.specs.Feed.{Call, sample_of, piece_broken, feed_refusal, table_after, feed_state, feed_first, feed_second, feed_scores, feed_lengths}
+use Rattle.monitor.specs.Feed.{Call, piece_broken, feed_refusal, table_after, feed_state, feed_first, feed_second, feed_scores, feed_lengths}
 use Rattle.monitor.specs.Demand.{refusal_by}
 use Rattle.monitor.proofs.CellLaws.{of_cells}
 use Rattle.monitor.proofs.Written.{held-written, written_same}
 use Rattle.monitor.proofs.PieceViews.{sample-front, before-front, view_front, longer, before-end}
-use Rattle.monitor.proofs.Between.{Fine, Between, book_table, ticks-in, rest-is, cell_no_mark}
+use Rattle.monitor.proofs.Between.{Fine, Between, book_table, next, ticks-in, rest-is, cell_no_mark}
 use Rattle.monitor.proofs.Demand.{feed_given, score-at, length-at}
 use Rattle.best.specs.Best.{score_at, length_at}
 use Rattle.best.specs.Search.{table_to, state_to}
@@ -57,13 +55,13 @@ module _ (p : Pattern) (sound : sound_of p ≡ true) (b : Book) (c : Call) (rest
   d = c.duration
 
   abbrev x : Sample
-  x = sample_of c
+  x = c.values
 
   -- the book: what lies before, the stretch, the rest
   abbrev pub whole : Book
   whole = longer p b d x ++ rest
 
-  module _ (few : length b + d ≤ 2147483647) (fine : (i : ℕ) → i < length b + d → Fine p (sample_at whole i)) (value : Fine p x) (lent : read_sound c.values c.read ≡ true)
+  module _ (few : length b + d ≤ 2147483647) (fine : (i : ℕ) → i < length b + d → Fine p (sample_at whole i)) (value : Fine p x)
       (some-ticks : 1 ≤ d) (short : d ≤ 65535) (scores : d ≤ length c.scores) (lengths : d ≤ length c.lengths)
       (t u : List ℤ) (first_long : cells_needed p ≤ length t) (second_long : cells_needed p ≤ length u) (first : t ≡ written p (table_to p whole (length b)) t) where
     abbrev s : State
@@ -88,7 +86,6 @@ module _ (p : Pattern) (sound : sound_of p ≡ true) (b : Book) (c : Call) (rest
           ticks = refl;
           few = omega arith;
           fine = fine_before;
-          read = ap (λ (q : State). q.read) (ap (λ (w : Book). state_to p w (length b)) assoc ∙ state-front p b (replicate d x ++ rest) (length b) (omega arith));
           last = ap (λ (q : State). q.last) (ap (λ (w : Book). state_to p w (length b)) assoc ∙ state-front p b (replicate d x ++ rest) (length b) (omega arith));
           first_long = first_long;
           second_long = second_long;
@@ -103,7 +100,7 @@ module _ (p : Pattern) (sound : sound_of p ≡ true) (b : Book) (c : Call) (rest
     none_given : refusal_by p b c ≡ none
     unfolding refusal_by piece_broken
     none_given =
-        rw (le-leb 1 d some-ticks, le-leb d 65535 short, eq-eqb (length c.values) p.channels (sym (length-readings c.values c.read (read_length c.values c.read lent)) ∙ value.0), ap (all value_in_range) (sym (readings-values c.values c.read lent)) ∙ value.1, lent, le-ltb 2147483647 (length b + d) few, le-ltb (length c.scores) d scores, le-ltb (length c.lengths) d lengths)
+        rw (le-leb 1 d some-ticks, le-leb d 65535 short, eq-eqb (length x) p.channels value.0, value.1, le-ltb 2147483647 (length b + d) few, le-ltb (length c.scores) d scores, le-ltb (length c.lengths) d lengths)
 
     pub given : feed_refusal p s t u c ≡ none
     given = feed_given p b s t u between c none_given

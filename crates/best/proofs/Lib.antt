@@ -1,5 +1,4 @@
--- Why the choice among the reports is the best over all ends; why the code finds it; what is answered; where
--- nothing is lost.
+-- Why the choice among the reports is the best over all ends; why the code finds it; what is answered.
 pub mod Ends
 pub mod Choices
 pub mod Pieces
@@ -9,4 +8,3 @@ pub mod Still
 pub mod Whole
 pub mod Left
 pub mod Answer
-pub mod Lost

@@ -9,32 +9,26 @@ use borrow.Author.Tests.{ltb-true, ltb-false}
 use lib.Dec.{ltb}
 use lib.ListN.{length, take, drop, get_or, replicate, length-append, length-replicate, length-drop, length-take, get_or-replicate, replicate-append-replicate, take-append-drop, get_or-append}
 use lib.Seq.{get_or-append-add}
+use lib.IntN.{ℤ}
 use Rattle.pattern.specs.declared.Pattern.{Pattern}
 use Rattle.pattern.specs.Slots.{all}
-use Rattle.record.specs.Reading.{Reading, Sample, value_of, values_of}
+use Rattle.pattern.specs.Distance.{Sample}
 use Rattle.record.specs.Record.{Book, ticks_of, pieces_of, book_of, sample_at, total, value_in_range}
 use Rattle.record.proofs.ListLaws.{all_take, all_drop}
 use Rattle.record.proofs.RecordLaws.{length-ticks, piece-at, ticks-from, total-append}
 use Rattle.monitor.proofs.PieceViews.{longer}
 
-abbrev pub in_range : Reading → Bool
-in_range r = value_in_range (value_of r)
-
-pub values-range : (x : Sample) → all value_in_range (values_of x) ≡ all in_range x
-values-range [] = refl
-values-range (r ∷ x) = rw (values-range x)
-
 abbrev Told : ℕ → Sample → Type 0
-Told n s = (length s ≡ n) × (all value_in_range (values_of s) ≡ true)
+Told n s = (length s ≡ n) × (all value_in_range s ≡ true)
 
 -- every tick of a sound record has a value for each channel, in range
-pub fine-tick : (n : ℕ) (ds : List ℕ) (vs : List Reading) → length vs ≡ length ds * n → all in_range vs ≡ true → (i : ℕ) → i < total ds
+pub fine-tick : (n : ℕ) (ds : List ℕ) (vs : List ℤ) → length vs ≡ length ds * n → all value_in_range vs ≡ true → (i : ℕ) → i < total ds
     → Told n (get_or (ticks_of (pieces_of n ds vs)) i [])
 unfolding ticks_of pieces_of total
 fine-tick n [] vs agree values i l = absurd (omega arith)
 fine-tick n (d ∷ ds) vs agree values i l =
     by (ltb i d) refl
-    (fine-tick n ds (drop n vs) (let q = suc-mul (length ds) n in let t = length-drop n vs in omega arith) (all_drop in_range n vs values) (i - d))
+    (fine-tick n ds (drop n vs) (let q = suc-mul (length ds) n in let t = length-drop n vs in omega arith) (all_drop value_in_range n vs values) (i - d))
   where
     long : length vs ≡ n + length ds * n
     long = agree ∙ suc-mul (length ds) n ∙ omega arith
@@ -47,14 +41,14 @@ fine-tick n (d ∷ ds) vs agree values i l =
         let k = ltb-true i d e in
         let q = length-replicate d (take n vs) in
         subst (Told n) (sym (get_or-append (replicate d (take n vs)) tail [] i (omega arith) ∙ get_or-replicate d i (take n vs) [] k))
-        ((let t = length-take n vs in omega arith), values-range (take n vs) ∙ all_take in_range n vs values)
+        ((let t = length-take n vs in omega arith), all_take value_in_range n vs values)
     by false e f =
         let k = ltb-false i d e in
         let z : length (replicate d (take n vs)) + (i - d) ≡ i = let r = length-replicate d (take n vs) in omega arith in
         subst (λ (j : ℕ). Told n (get_or (replicate d (take n vs) ++ tail) j [])) z
         (subst (Told n) (sym (get_or-append-add (replicate d (take n vs)) tail (i - d) [])) (f (omega arith)))
 
-module _ (p : Pattern) (n : ℕ) (ds : List ℕ) (vs : List Reading) where
+module _ (p : Pattern) (n : ℕ) (ds : List ℕ) (vs : List ℤ) where
   abbrev pub B : Book
   B = book_of n ds vs
 

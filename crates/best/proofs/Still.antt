@@ -13,9 +13,9 @@ use Rattle.weighting.specs.Weightings.{weighting_of}
 use Rattle.pattern.specs.declared.Pattern.{Pattern}
 use Rattle.pattern.specs.Sound.{sound_of}
 use Rattle.pattern.specs.Clocks.{Clocks}
-use Rattle.record.specs.Reading.{Reading, Sample, values_of, flags_of}
-use Rattle.record.specs.Record.{Book, sample_at, total, book_of}
-use Rattle.record.proofs.RecordLaws.{total-more}
+use Rattle.pattern.specs.Distance.{Sample}
+use Rattle.record.specs.Record.{Book, sample_at, total, record_sound, book_of}
+use Rattle.record.proofs.RecordLaws.{parts, total-more}
 use Rattle.walks.specs.Automaton.{View, State as Place}
 use Rattle.walks.specs.Tables.{Table, table_at}
 use Rattle.walks.proofs.Cut.{cut}
@@ -100,7 +100,7 @@ module _ (p : Pattern) (sound : sound_of p ≡ true) (b : Book) (n more : ℕ) (
 
 -- ---- a piece of a record
 
-module _ (p : Pattern) (sound : sound_of p ≡ true) (ds : List ℕ) (vs : List Reading) (i : ℕ) (inside : i < length ds) where
+module _ (p : Pattern) (sound : sound_of p ≡ true) (ds : List ℕ) (vs : List ℤ) (i : ℕ) (inside : i < length ds) where
   abbrev B : Book
   B = book_of p.channels ds vs
 
@@ -134,7 +134,7 @@ module _ (p : Pattern) (sound : sound_of p ≡ true) (ds : List ℕ) (vs : List 
       ∙ view_front p (longer p b d x) tail (length b + suc t) f k (let l = long d in let g = begins in omega arith)
       ∙ view_new p b d x (suc t) f k h)
 
-  -- after a tick of the piece its sample is the last
+  -- after a tick of the piece its values are the last
   last-is : (k : ℕ) → 1 ≤ k → k ≤ d → before p B (start + k) ≡ x
   last-is k some-ticks h =
       let tail = rest p p.channels ds vs i (0 + k) in
@@ -145,11 +145,12 @@ module _ (p : Pattern) (sound : sound_of p ≡ true) (ds : List ℕ) (vs : List 
       ∙ before-end p b k x some-ticks)
 
   -- the rest of the piece has room
-  pub room-passes : total ds ≤ 2147483647 → (m : ℕ) → m ≤ d → (s : Search) → SearchedTo p B (start + m) s → s.state.ticks + (d - m) ≤ 2147483647
+  pub room-passes : record_sound p.channels ds vs ≡ true → (m : ℕ) → m ≤ d → (s : Search) → SearchedTo p B (start + m) s → s.state.ticks + (d - m) ≤ 2147483647
   room-passes fits m low s k =
       let e = ap (λ (q : State). q.ticks) k.0 in
       let a = total-more ds i inside in
       let l = start-low p p.channels ds vs (i + 1) in
+      let r = (parts p.channels ds vs fits).short in
       omega arith
 
   -- m ticks are fed: all of the piece, or those until the table stands still
@@ -195,7 +196,7 @@ module _ (p : Pattern) (sound : sound_of p ≡ true) (ds : List ℕ) (vs : List 
     pub passes : (s : Search) → SearchedTo p B (start + m) s → SearchedTo p B (start + d) (passed s (d - m))
     passes s k =
         let e : start + m + (d - m) ≡ start + d = omega arith in (
-          ap (λ (q : State). record { ticks = q.ticks + (d - m); last = q.last; read = q.read }) k.0
-              ∙ (λ j. record { ticks = e j; last = values_of (last-passes j) ++ replicate (8 - p.channels) (pos 0); read = flags_of (last-passes j) ++ replicate (8 - p.channels) 1 }),
+          ap (λ (q : State). record { ticks = q.ticks + (d - m); last = q.last }) k.0
+              ∙ (λ j. record { ticks = e j; last = last-passes j ++ replicate (8 - p.channels) (pos 0) }),
           k.1 ∙ choice-passes,
         )

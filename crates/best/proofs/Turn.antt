@@ -2,7 +2,7 @@
 use Prim.Native.Nat.{ℕ, ◌+◌, ◌-◌, ◌*◌, ◌≤◌, ◌<◌, min}
 use native.Mathlib.Omega.{arith}
 use mathlib.Core.Path.{◌≡◌, sym, ap, subst, ◌∙◌}
-use mathlib.Core.List.{List, ◌++◌}
+use mathlib.Core.List.{List}
 use mathlib.Core.Option.{Option, none}
 use mathlib.Core.Bool.{true}
 use lib.ListN.{length, take, drop, get_or, length-take, length-drop}
@@ -11,24 +11,21 @@ use Rattle.pattern.specs.declared.Pattern.{Pattern}
 use Rattle.pattern.specs.Slots.{all}
 use Rattle.pattern.specs.Sound.{sound_of}
 use Rattle.pattern.specs.Cells.{cells_needed}
-use Rattle.record.specs.Reading.{Sample, readings, read_sound}
-use Rattle.record.specs.Record.{Book, sample_at, total, value_in_range, lent_sound, book_of}
+use Rattle.record.specs.Record.{Book, sample_at, total, value_in_range, record_sound, book_of}
 use Rattle.record.proofs.ListLaws.{all_take, all_drop}
-use Rattle.record.proofs.RecordLaws.{Parts, parts, total-more, sample-within, lent-parts}
-use Rattle.record.proofs.ReadingLaws.{length-readings, read_length, read_take, read-drop, readings-values, sample-values, part-readings}
+use Rattle.record.proofs.RecordLaws.{parts, total-more, sample-within}
 use Rattle.book.specs.View as book
 use Rattle.monitor.specs.declared.State.{State}
 use Rattle.monitor.specs.Cells.{written}
 use Rattle.monitor.specs.Open.{marks}
-use Rattle.monitor.specs.Feed.{Call, sample_of, feed_refusal, feed_state, feed_first, feed_second, feed_scores, feed_lengths}
+use Rattle.monitor.specs.Feed.{Call, feed_refusal, feed_state, feed_first, feed_second, feed_scores, feed_lengths}
 use Rattle.monitor.proofs.Written.{written-length, written_again}
-use Rattle.monitor.proofs.PieceViews.{longer}
 use Rattle.monitor.proofs.Between.{Fine}
 use Rattle.best.specs.declared.Search.{Search}
 use Rattle.best.specs.Best.{Chosen, chosen_to, score_at, length_at}
 use Rattle.best.specs.Search.{table_to, state_to, chosen_in, chosen_past, chunk_of, SearchedTo, Fit}
 use Rattle.best.proofs.Choices.{past_is}
-use Rattle.best.proofs.Pieces.{values-range, fine-tick, front, rest, split, front_long, start-low}
+use Rattle.best.proofs.Pieces.{fine-tick, front, rest, start, split, front_long, start-low}
 use Rattle.best.proofs.Chunk.{whole, given, state-after, first-after, second-after, score-after, length-after}
 
 -- ---- a chunk
@@ -43,7 +40,7 @@ pub record Turned (p : Pattern) (B : Book) (q : State) (o : Option Chosen) (t u 
   pub reports : (i : ℕ) → i < c.duration
       → (get_or (feed_scores p q t u c) i (pos 0) ≡ score_at p B (n + i + 1)) × (get_or (feed_lengths p q t u c) i 0 ≡ length_at p B (n + i + 1))
 
-module _ (p : Pattern) (sound : sound_of p ≡ true) (b : Book) (c : Call) (after : Book) (value : Fine p (sample_of c)) (lent : read_sound c.values c.read ≡ true)
+module _ (p : Pattern) (sound : sound_of p ≡ true) (b : Book) (c : Call) (after : Book) (value : Fine p c.values)
     (some-ticks : 1 ≤ c.duration) (short : c.duration ≤ 65535) (scores : c.duration ≤ length c.scores) (lengths : c.duration ≤ length c.lengths)
     (t u : List ℤ) (first_long : cells_needed p ≤ length t) (second_long : cells_needed p ≤ length u) (q : State) (o : Option Chosen) where
   -- what holds of the book before the chunk, and what then holds after it
@@ -57,20 +54,20 @@ module _ (p : Pattern) (sound : sound_of p ≡ true) (b : Book) (c : Call) (afte
       let W = whole p sound b c after in
       subst (λ (r : State). Turned p W r o t u c (length b)) (sym state)
       (record {
-        accepted = given p sound b c after few fine value lent some-ticks short scores lengths t u first_long second_long first;
-        state = state-after p sound b c after few fine value lent some-ticks short scores lengths t u first_long second_long first;
+        accepted = given p sound b c after few fine value some-ticks short scores lengths t u first_long second_long first;
+        state = state-after p sound b c after few fine value some-ticks short scores lengths t u first_long second_long first;
         choice = past_is p W (length b) _ _ o c.duration chosen told;
         reports = told;
-        first = first-after p sound b c after few fine value lent some-ticks short scores lengths t u first_long second_long first;
-        second = second-after p sound b c after few fine value lent some-ticks short scores lengths t u first_long second_long first;
+        first = first-after p sound b c after few fine value some-ticks short scores lengths t u first_long second_long first;
+        second = second-after p sound b c after few fine value some-ticks short scores lengths t u first_long second_long first;
       })
     where
       told : (j : ℕ) → j < c.duration
           → (get_or (feed_scores p (state_to p (whole p sound b c after) (length b)) t u c) j (pos 0) ≡ score_at p (whole p sound b c after) (length b + j + 1))
           × (get_or (feed_lengths p (state_to p (whole p sound b c after) (length b)) t u c) j 0 ≡ length_at p (whole p sound b c after) (length b + j + 1))
       told j l = (
-        score-after p sound b c after few fine value lent some-ticks short scores lengths t u first_long second_long first j l,
-        length-after p sound b c after few fine value lent some-ticks short scores lengths t u first_long second_long first j l,
+        score-after p sound b c after few fine value some-ticks short scores lengths t u first_long second_long first j l,
+        length-after p sound b c after few fine value some-ticks short scores lengths t u first_long second_long first j l,
       )
 
   pub stepped : (B : Book) (n : ℕ) → whole p sound b c after ≡ B → length b ≡ n → Step B n
@@ -78,22 +75,13 @@ module _ (p : Pattern) (sound : sound_of p ≡ true) (b : Book) (c : Call) (afte
 
 -- ---- a piece of a record
 
-module _ (p : Pattern) (sound : sound_of p ≡ true) (ds : List ℕ) (vs : List ℤ) (fs : List ℕ) (fits : lent_sound p.channels ds vs fs ≡ true) where
-  sounds : Parts p.channels ds vs
-  sounds = parts p.channels ds vs (lent-parts p.channels ds vs fs fits).0
-
-  lent : read_sound vs fs ≡ true
-  lent = (lent-parts p.channels ds vs fs fits).1
-
-  long-readings : length (readings vs fs) ≡ length ds * p.channels
-  long-readings = length-readings vs fs (read_length vs fs lent) ∙ sounds.agree
-
+module _ (p : Pattern) (sound : sound_of p ≡ true) (ds : List ℕ) (vs : List ℤ) (fits : record_sound p.channels ds vs ≡ true) where
   abbrev B : Book
-  B = book_of p.channels ds (readings vs fs)
+  B = book_of p.channels ds vs
 
   fine : (i : ℕ) → i < total ds → Fine p (book.sample_at B i)
   unfolding book_of
-  fine = fine-tick p.channels ds (readings vs fs) long-readings (sym (values-range (readings vs fs)) ∙ ap (all value_in_range) (readings-values vs fs lent) ∙ sounds.values)
+  fine = let k = parts p.channels ds vs fits in fine-tick p.channels ds vs k.agree k.values
 
   module _ (i gone d : ℕ) (inside : i < length ds) (room : gone + d ≤ get_or ds i 0) (some-ticks : 1 ≤ d) (few : d ≤ 64) where
     abbrev n : ℕ
@@ -102,27 +90,26 @@ module _ (p : Pattern) (sound : sound_of p ≡ true) (ds : List ℕ) (vs : List 
     within : n + d ≤ total ds
     within =
         let a = total-more ds i inside in
-        let l = start-low p p.channels ds (readings vs fs) (i + 1) in
+        let l = start-low p p.channels ds vs (i + 1) in
         omega arith
 
-    pub sample-fine : Fine p (sample_at p.channels (readings vs fs) i)
+    pub sample-fine : Fine p (sample_at p.channels vs i)
     unfolding sample_at
     sample-fine =
-        let k = sounds in
-        let g = long-readings in
+        let k = parts p.channels ds vs fits in
+        let g = k.agree in
         let w = sample-within i (length ds) p.channels inside in
-        let a = length-take p.channels (drop (i * p.channels) (readings vs fs)) in
-        let b = length-drop (i * p.channels) (readings vs fs) in
-        (omega arith, ap (all value_in_range) (sample-values p.channels i vs fs lent) ∙ all_take value_in_range p.channels (drop (i * p.channels) vs) (all_drop value_in_range (i * p.channels) vs k.values))
+        let a = length-take p.channels (drop (i * p.channels) vs) in
+        let b = length-drop (i * p.channels) vs in
+        (omega arith, all_take value_in_range p.channels (drop (i * p.channels) vs) (all_drop value_in_range (i * p.channels) vs k.values))
 
     pub fed : (q : State) (o : Option Chosen) (t u : List ℤ) → cells_needed p ≤ length t → cells_needed p ≤ length u
-        → q ≡ state_to p B n → o ≡ chosen_to p B n → t ≡ written p (table_to p B n) t → Turned p B q o t u (chunk_of d (take p.channels (drop (i * p.channels) vs)) (take p.channels (drop (i * p.channels) fs))) n
+        → q ≡ state_to p B n → o ≡ chosen_to p B n → t ≡ written p (table_to p B n) t → Turned p B q o t u (chunk_of d (sample_at p.channels vs i)) n
     fed q o t u first_long second_long state chosen first =
-        stepped p sound (front p p.channels ds (readings vs fs) i gone) (chunk_of d (take p.channels (drop (i * p.channels) vs)) (take p.channels (drop (i * p.channels) fs))) (rest p p.channels ds (readings vs fs) i (gone + d)) (subst (Fine p) (sym (part-readings p.channels i vs fs)) sample-fine)
-        (read_take p.channels (drop (i * p.channels) vs) (drop (i * p.channels) fs) (read-drop (i * p.channels) vs fs lent))
+        stepped p sound (front p p.channels ds vs i gone) (chunk_of d (sample_at p.channels vs i)) (rest p p.channels ds vs i (gone + d)) sample-fine
         some-ticks (omega arith) few few t u first_long second_long q o B n
-        (ap (λ (y : Sample). longer p (front p p.channels ds (readings vs fs) i gone) d y ++ rest p p.channels ds (readings vs fs) i (gone + d)) (part-readings p.channels i vs fs) ∙ split p p.channels ds (readings vs fs) i gone d inside room) (front_long p p.channels ds (readings vs fs) i gone)
-        (let k = sounds.short in let w = within in omega arith)
+        (split p p.channels ds vs i gone d inside room) (front_long p p.channels ds vs i gone)
+        (let k = (parts p.channels ds vs fits).short in let w = within in omega arith)
         (λ j l. fine j (let w = within in omega arith)) state chosen first
 
   -- a turn of the loop over the first `count` ticks of a piece: `left` of them are left, and d more are fed
@@ -132,7 +119,7 @@ module _ (p : Pattern) (sound : sound_of p ≡ true) (ds : List ℕ) (vs : List 
     at k = total (take i ds) + (count - k)
 
     abbrev c : Call
-    c = chunk_of d (take p.channels (drop (i * p.channels) vs)) (take p.channels (drop (i * p.channels) fs))
+    c = chunk_of d (sample_at p.channels vs i)
 
     module _ (searched : SearchedTo p B (at left) s) (first : t ≡ written p (table_to p B (at left)) t₀) where
       long-first : length t ≡ length t₀
@@ -173,17 +160,17 @@ module _ (p : Pattern) (sound : sound_of p ≡ true) (ds : List ℕ) (vs : List 
       room-on =
           let e = ap (λ (q : State). q.ticks) searched.0 in
           let a = total-more ds i inside in
-          let l = start-low p p.channels ds (readings vs fs) (i + 1) in
-          let k = sounds.short in
+          let l = start-low p p.channels ds vs (i + 1) in
+          let k = (parts p.channels ds vs fits).short in
           omega arith
 
 -- ---- from piece to piece
 
-module _ (p : Pattern) (ds : List ℕ) (vs : List ℤ) (fs : List ℕ) (i j : ℕ) (s r : Search) (t t' : List ℤ) (k : Fit p ds vs fs i s t) where
-  pub fit_on : SearchedTo p (book_of p.channels ds (readings vs fs)) (total (take j ds)) r → t' ≡ written p (table_to p (book_of p.channels ds (readings vs fs)) (total (take j ds))) t
-      → Fit p ds vs fs j r t'
+module _ (p : Pattern) (ds : List ℕ) (vs : List ℤ) (i j : ℕ) (s r : Search) (t t' : List ℤ) (k : Fit p ds vs i s t) where
+  pub fit_on : SearchedTo p (book_of p.channels ds vs) (total (take j ds)) r → t' ≡ written p (table_to p (book_of p.channels ds vs) (total (take j ds))) t
+      → Fit p ds vs j r t'
   fit_on searched first =
-      let U = table_to p (book_of p.channels ds (readings vs fs)) (total (take j ds)) in
+      let U = table_to p (book_of p.channels ds vs) (total (take j ds)) in
       record {
         sound = k.sound;
         fits = k.fits;

@@ -12,8 +12,7 @@ use Rattle.pattern.specs.declared.Refusal.{Refusal}
 use Rattle.pattern.specs.declared.Refusal.TheVariants.{UnsoundPattern, BrokenRecord, TableTooShort}
 use Rattle.pattern.specs.Sound.{sound_of}
 use Rattle.pattern.specs.Cells.{cells_needed}
-use Rattle.record.specs.Reading.{readings}
-use Rattle.record.specs.Record.{Book, total, lent_sound, book_of}
+use Rattle.record.specs.Record.{Book, total, record_sound, book_of}
 use Rattle.book.specs.View.{before}
 use Rattle.flags.specs.Flags.{Flagged}
 use Rattle.monitor.specs.declared.State.{State}
@@ -28,25 +27,25 @@ use Rattle.best.specs.Best.{chosen_to, best_refusal, best_first, best_second}
 use Rattle.best.specs.Search.{table_to, chosen_in, Fit}
 use Rattle.best.proofs.Pieces.{book-long}
 
-module _ (p : Pattern) (ds : List ℕ) (vs : List ℤ) (fs : List ℕ) where
+module _ (p : Pattern) (ds : List ℕ) (vs : List ℤ) where
   abbrev B : Book
-  B = book_of p.channels ds (readings vs fs)
+  B = book_of p.channels ds vs
 
   -- no cause: 8 does not hold, and an opening is not refused
-  pub causes : (first second : ℕ) → best_refusal p ds vs fs first second ≡ none → (lent_sound p.channels ds vs fs ≡ true) × (open_refusal p first second ≡ none)
+  pub causes : (first second : ℕ) → best_refusal p ds vs first second ≡ none → (record_sound p.channels ds vs ≡ true) × (open_refusal p first second ≡ none)
   unfolding best_refusal open_refusal
   causes first second e =
       let third : List (Bool × Refusal) = (table_too_short p first second, TableTooShort) ∷ [] in
-      let one = no_cause (not (sound_of p)) UnsoundPattern ((not (lent_sound p.channels ds vs fs), BrokenRecord) ∷ third) e in
-      let two = no_cause (not (lent_sound p.channels ds vs fs)) BrokenRecord third one.1 in
-      (not-false (lent_sound p.channels ds vs fs) two.0, rw one.0 two.1)
+      let one = no_cause (not (sound_of p)) UnsoundPattern ((not (record_sound p.channels ds vs), BrokenRecord) ∷ third) e in
+      let two = no_cause (not (record_sound p.channels ds vs)) BrokenRecord third one.1 in
+      (not-false (record_sound p.channels ds vs) two.0, rw one.0 two.1)
 
-  module _ (t u : List ℤ) (none_given : best_refusal p ds vs fs (length t) (length u) ≡ none) where
+  module _ (t u : List ℤ) (none_given : best_refusal p ds vs (length t) (length u) ≡ none) where
     opens : open_refusal p (length t) (length u) ≡ none
     opens = (causes (length t) (length u) none_given).1
 
     -- after the opening nothing was fed
-    pub fit : (q : State) (s : Search) → s.state ≡ open_state p t u q → chosen_in s.choice ≡ none → Fit p ds vs fs 0 s (open_first p t u)
+    pub fit : (q : State) (s : Search) → s.state ≡ open_state p t u q → chosen_in s.choice ≡ none → Fit p ds vs 0 s (open_first p t u)
     unfolding total chosen_to before
     fit q s state choice =
         let k = open_parts p (length t) (length u) opens in
@@ -55,7 +54,7 @@ module _ (p : Pattern) (ds : List ℕ) (vs : List ℤ) (fs : List ℕ) where
         (record {
           sound = k.0;
           fits = (causes (length t) (length u) none_given).0;
-          searched = (state ∙ rw opens (λ j. record { ticks = 0; last = h.last j; read = h.read j }), choice);
+          searched = (state ∙ rw opens (ap (λ (l : List ℤ). record { ticks = 0; last = l }) h.last), choice);
           first_long = h.first_long;
           first = sym (written_again p (open_table p) (open_table p) t);
         })
@@ -75,9 +74,9 @@ module _ (p : Pattern) (ds : List ℕ) (vs : List ℤ) (fs : List ℕ) where
         rw opens (h.second_long, sym (marks_again p u))
 
     -- what is left
-    pub first-left : (t' : List ℤ) → t' ≡ written p (table_to p B (total ds)) (open_first p t u) → t' ≡ best_first p ds vs fs t u
+    pub first-left : (t' : List ℤ) → t' ≡ written p (table_to p B (total ds)) (open_first p t u) → t' ≡ best_first p ds vs t u
     first-left t' e =
-        e ∙ rw (opens, none_given) (written_again p (table_to p B (total ds)) (open_table p) t ∙ ap (λ (n : ℕ). written p (table_to p B n) t) (sym (book-long p p.channels ds (readings vs fs))))
+        e ∙ rw (opens, none_given) (written_again p (table_to p B (total ds)) (open_table p) t ∙ ap (λ (n : ℕ). written p (table_to p B n) t) (sym (book-long p p.channels ds vs)))
 
-    pub second-left : open_second p t u ≡ best_second p ds vs fs t u
+    pub second-left : open_second p t u ≡ best_second p ds vs t u
     second-left = rw (opens, none_given)

@@ -1,4 +1,4 @@
--- Best of a record (document 01, 'Best of a record'; document 02, R-7).
+-- Best of a record (document 01, 'Best of a record').
 use Rattle.std.specs.Prelude.{ℕ, zero, suc, ◌-◌, List, [], ◌∷◌, not, cond, length, ℤ}
 use Rattle.std.proofs.Math.Option.{Option, none, some}
 use Rattle.weighting.specs.Weightings.{weighting_of}
@@ -7,8 +7,7 @@ use Rattle.pattern.specs.declared.Refusal.{Refusal}
 use Rattle.pattern.specs.declared.Refusal.TheVariants.{UnsoundPattern, BrokenRecord, TableTooShort}
 use Rattle.pattern.specs.Sound.{sound_of}
 use Rattle.pattern.specs.Refusal.{number_of}
-use Rattle.record.specs.Reading.{readings}
-use Rattle.record.specs.Record.{Book, lent_sound, book_of}
+use Rattle.record.specs.Record.{Book, record_sound, book_of}
 use Rattle.book.specs.View.{view_of}
 use Rattle.monitor.specs.Cells.{written}
 use Rattle.monitor.specs.Tick.{open_table, ticks_later, report_of, score_in, length_in}
@@ -49,12 +48,12 @@ chosen_of p b = chosen_to p b (length b)
 
 -- ---- the operation
 
--- "7, 8, then 11", by the lengths of the two tables; 8 also by the flags of the readings (document 02, R-7)
-unfoldable pub best_refusal : Pattern → (durations : List ℕ) → (values : List ℤ) → (flags : List ℕ) → (first second : ℕ) → Option Refusal
-best_refusal p ds vs fs first second =
+-- "7, 8, then 11", by the lengths of the two tables
+unfoldable pub best_refusal : Pattern → (durations : List ℕ) → (values : List ℤ) → (first second : ℕ) → Option Refusal
+best_refusal p ds vs first second =
     first_cause
     ((not (sound_of p), UnsoundPattern)
-    ∷ (not (lent_sound p.channels ds vs fs), BrokenRecord)
+    ∷ (not (record_sound p.channels ds vs), BrokenRecord)
     ∷ (table_too_short p first second, TableTooShort)
     ∷ [])
 
@@ -64,8 +63,8 @@ answered (some r) o = Refused r
 answered none none = Nothing
 answered none (some f) = Run f.end (f.end - f.len) f.score
 
-abbrev pub best_of : Pattern → (durations : List ℕ) → (values : List ℤ) → (flags : List ℕ) → (first second : List ℤ) → Found
-best_of p ds vs fs t u = answered (best_refusal p ds vs fs (length t) (length u)) (chosen_of p (book_of p.channels ds (readings vs fs)))
+abbrev pub best_of : Pattern → (durations : List ℕ) → (values : List ℤ) → (first second : List ℤ) → Found
+best_of p ds vs t u = answered (best_refusal p ds vs (length t) (length u)) (chosen_of p (book_of p.channels ds vs))
 
 -- What an answer says: the refusal's number (0 if there is none), and the end, begin and score; none of them beside a refusal,
 -- and none without a run.
@@ -79,18 +78,18 @@ chosen_as none = none
 chosen_as (some f) = some (f.end, f.end - f.len, f.score)
 
 -- What is due, in document 01's numbers.
-abbrev pub best_numbers : Pattern → (durations : List ℕ) → (values : List ℤ) → (flags : List ℕ) → (first second : List ℤ) → ℕ × Option (ℕ × ℕ × ℤ)
-best_numbers p ds vs fs t u =
+abbrev pub best_numbers : Pattern → (durations : List ℕ) → (values : List ℤ) → (first second : List ℤ) → ℕ × Option (ℕ × ℕ × ℤ)
+best_numbers p ds vs t u =
     cond (not (sound_of p)) (7, none)
-    (cond (not (lent_sound p.channels ds vs fs)) (8, none)
-    (cond (table_too_short p (length t) (length u)) (11, none) (0, chosen_as (chosen_of p (book_of p.channels ds (readings vs fs))))))
+    (cond (not (record_sound p.channels ds vs)) (8, none)
+    (cond (table_too_short p (length t) (length u)) (11, none) (0, chosen_as (chosen_of p (book_of p.channels ds vs)))))
 
 -- "The tables are left as opening and then feeding the whole record leaves them": the table after all ticks, and marks.
-abbrev pub best_first : Pattern → (durations : List ℕ) → (values : List ℤ) → (flags : List ℕ) → (first second : List ℤ) → List ℤ
-best_first p ds vs fs t u =
-    unless_refused (best_refusal p ds vs fs (length t) (length u))
-    (written p (ticks_later p (view_of p (book_of p.channels ds (readings vs fs))) (open_table p) (length (book_of p.channels ds (readings vs fs)))) t)
+abbrev pub best_first : Pattern → (durations : List ℕ) → (values : List ℤ) → (first second : List ℤ) → List ℤ
+best_first p ds vs t u =
+    unless_refused (best_refusal p ds vs (length t) (length u))
+    (written p (ticks_later p (view_of p (book_of p.channels ds vs)) (open_table p) (length (book_of p.channels ds vs))) t)
     t
 
-abbrev pub best_second : Pattern → (durations : List ℕ) → (values : List ℤ) → (flags : List ℕ) → (first second : List ℤ) → List ℤ
-best_second p ds vs fs t u = unless_refused (best_refusal p ds vs fs (length t) (length u)) (marks p u) u
+abbrev pub best_second : Pattern → (durations : List ℕ) → (values : List ℤ) → (first second : List ℤ) → List ℤ
+best_second p ds vs t u = unless_refused (best_refusal p ds vs (length t) (length u)) (marks p u) u

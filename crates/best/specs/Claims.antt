@@ -1,16 +1,16 @@
 -- What is proved of the best of a record: the choice is the best over the ends of demand 3 on the record's book, or none; the
 -- answer is that run's end, begin and score; and the tables are left as feeding the whole record leaves them. The proofs are in
 -- proofs/.
-use Rattle.std.specs.Prelude.{ℕ, zero, suc, ◌-◌, ◌≤◌, ◌≡◌, List, [], ◌∷◌, ◌++◌, map, true, cond, T, ltb, length, replicate, ℤ, pos}
+use Rattle.std.specs.Prelude.{ℕ, zero, suc, ◌-◌, ◌≤◌, ◌≡◌, List, [], ◌∷◌, ◌++◌, map, true, not, cond, T, ltb, length, replicate, ℤ, pos}
 use Rattle.std.proofs.Math.Option.{Option, none, some}
 use Rattle.weighting.specs.Weightings.{weighting_of}
 use Rattle.pattern.specs.declared.Pattern.{Pattern}
 use Rattle.pattern.specs.Sound.{sound_of}
-use Rattle.record.specs.Reading.{Sample, values_of, flags_of, readings}
-use Rattle.record.specs.Record.{Piece, Book, pieces_of, book_of}
+use Rattle.pattern.specs.Distance.{Sample}
+use Rattle.record.specs.Record.{Piece, Book, pieces_of, record_sound, book_of}
 use Rattle.book.specs.PricedRun.{PricedRun}
 use Rattle.monitor.specs.declared.State.{State}
-use Rattle.monitor.specs.Open.{open_state, open_first, open_second}
+use Rattle.monitor.specs.Open.{table_too_short, open_state, open_first, open_second}
 use Rattle.monitor.specs.Feed.{Call, feed_state, feed_first, feed_second}
 use Rattle.monitor.specs.Demand.{InWindow}
 use Rattle.best.specs.declared.Found.{Found}
@@ -65,17 +65,17 @@ AnswerSays p b (Refused r) = ⊥
 -- What `best` answers, unless it is refused.
 abbrev pub BestAnswers : Type 0
 BestAnswers =
-    (p : Pattern) (ds : List ℕ) (vs : List ℤ) (fs : List ℕ) (t u : List ℤ) → best_refusal p ds vs fs (length t) (length u) ≡ none
-    → AnswerSays p (book_of p.channels ds (readings vs fs)) (best_of p ds vs fs t u)
+    (p : Pattern) (ds : List ℕ) (vs : List ℤ) (t u : List ℤ) → best_refusal p ds vs (length t) (length u) ≡ none
+    → AnswerSays p (book_of p.channels ds vs) (best_of p ds vs t u)
 
 -- "A record without pieces gives none."
 abbrev pub NothingInNothing : Type 0
-NothingInNothing = (p : Pattern) (vs : List ℤ) (fs : List ℕ) (t u : List ℤ) → best_refusal p [] vs fs (length t) (length u) ≡ none → best_of p [] vs fs t u ≡ Nothing
+NothingInNothing = (p : Pattern) (vs t u : List ℤ) → best_refusal p [] vs (length t) (length u) ≡ none → best_of p [] vs t u ≡ Nothing
 
 -- What `best` answers is what is due, in document 01's numbers.
 abbrev pub BestNumbers : Type 0
 BestNumbers =
-    (p : Pattern) (ds : List ℕ) (vs : List ℤ) (fs : List ℕ) (t u : List ℤ) → found_as (best_of p ds vs fs t u) ≡ best_numbers p ds vs fs t u
+    (p : Pattern) (ds : List ℕ) (vs : List ℤ) (t u : List ℤ) → found_as (best_of p ds vs t u) ≡ best_numbers p ds vs t u
 
 -- ---- the tables
 
@@ -86,7 +86,7 @@ cut_in (suc most) d = cond (ltb 65_535 d) (65_535 ∷ cut_in most (d - 65_535)) 
 
 -- A piece as it is fed: in such pieces, each with report slices of its length. There are no more of them than ticks.
 abbrev pub call_for : Sample → (duration : ℕ) → Call
-call_for x d = record { duration = d; values = values_of x; read = flags_of x; scores = replicate d (pos 0); lengths = replicate d 0 }
+call_for x d = record { duration = d; values = x; scores = replicate d (pos 0); lengths = replicate d 0 }
 
 abbrev pub calls_for : Piece → List Call
 calls_for x = map (call_for x.sample) (cut_in x.duration x.duration)
@@ -109,6 +109,6 @@ module _ (p : Pattern) where
 -- "The tables are left as opening and then feeding the whole record leaves them, pieces over 65,535 ticks cut."
 abbrev pub TablesLeft : Type 0
 TablesLeft =
-    (p : Pattern) (ds : List ℕ) (vs : List ℤ) (fs : List ℕ) (t u : List ℤ) → best_refusal p ds vs fs (length t) (length u) ≡ none → (s : State)
-    → (best_first p ds vs fs t u ≡ first_after p (open_state p t u s) (open_first p t u) (open_second p t u) (whole_record (pieces_of p.channels ds (readings vs fs))))
-    × (best_second p ds vs fs t u ≡ second_after p (open_state p t u s) (open_first p t u) (open_second p t u) (whole_record (pieces_of p.channels ds (readings vs fs))))
+    (p : Pattern) (ds : List ℕ) (vs : List ℤ) (t u : List ℤ) → best_refusal p ds vs (length t) (length u) ≡ none → (s : State)
+    → (best_first p ds vs t u ≡ first_after p (open_state p t u s) (open_first p t u) (open_second p t u) (whole_record (pieces_of p.channels ds vs)))
+    × (best_second p ds vs t u ≡ second_after p (open_state p t u s) (open_first p t u) (open_second p t u) (whole_record (pieces_of p.channels ds vs)))

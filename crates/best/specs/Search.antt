@@ -6,8 +6,8 @@ use Rattle.pattern.specs.declared.Pattern.{Pattern}
 use Rattle.pattern.specs.Sound.{sound_of}
 use Rattle.pattern.specs.Clocks.{Clocks}
 use Rattle.pattern.specs.Cells.{cells_needed}
-use Rattle.record.specs.Reading.{values_of, flags_of, readings}
-use Rattle.record.specs.Record.{Book, total, lent_sound, book_of}
+use Rattle.pattern.specs.Distance.{Sample}
+use Rattle.record.specs.Record.{Book, total, record_sound, book_of}
 use Rattle.walks.specs.Tables.{Table}
 use Rattle.book.specs.View.{before, view_of}
 use Rattle.monitor.specs.declared.State.{State}
@@ -24,12 +24,7 @@ table_to p b n = ticks_later p (view_of p b) (open_table p) n
 
 -- The state after them.
 abbrev pub state_to : Pattern → Book → ℕ → State
-state_to p b n =
-    record {
-      ticks = n;
-      last = values_of (before p b n) ++ replicate (8 - p.channels) (pos 0);
-      read = flags_of (before p b n) ++ replicate (8 - p.channels) 1;
-    }
+state_to p b n = record { ticks = n; last = before p b n ++ replicate (8 - p.channels) (pos 0) }
 
 -- What a choice stands for: length 0 for none.
 unfoldable pub chosen_by : (end len : ℕ) → (score : ℤ) → Option Chosen
@@ -45,21 +40,21 @@ chosen_past p o n ss ls zero = o
 chosen_past p o n ss ls (suc i) = chosen_with p (chosen_past p o n ss ls i) (n + i + 1) (get_or ss i (pos 0)) (get_or ls i 0)
 
 -- A chunk of a piece, of up to 64 ticks, as it is fed: its reports go to slices of zeros.
-abbrev pub chunk_of : (ticks : ℕ) → (values : List ℤ) → (flags : List ℕ) → Call
-chunk_of ticks vs fs = record { duration = ticks; values = vs; read = fs; scores = replicate 64 (pos 0); lengths = replicate 64 0 }
+abbrev pub chunk_of : (ticks : ℕ) → Sample → Call
+chunk_of ticks vs = record { duration = ticks; values = vs; scores = replicate 64 (pos 0); lengths = replicate 64 0 }
 
 -- The state and the choice are those after the first n ticks.
 abbrev pub SearchedTo : Pattern → Book → ℕ → Search → Type 0
 SearchedTo p b n s = (s.state ≡ state_to p b n) × (chosen_in s.choice ≡ chosen_to p b n)
 
--- Ticks that pass and change neither the last readings nor the choice: a piece's, once the table stands still.
+-- Ticks that pass and change neither the last values nor the choice: a piece's, once the table stands still.
 abbrev pub passed : Search → (rest : ℕ) → Search
-passed s rest = record { state = record { ticks = s.state.ticks + rest; last = s.state.last; read = s.state.read }; choice = s.choice }
+passed s rest = record { state = record { ticks = s.state.ticks + rest; last = s.state.last }; choice = s.choice }
 
 -- A record whose first `piece` pieces were fed, and a first table that holds what is then due.
-pub record Fit (p : Pattern) (ds : List ℕ) (vs : List ℤ) (fs : List ℕ) (piece : ℕ) (s : Search) (t : List ℤ) : Type 0 where
+pub record Fit (p : Pattern) (ds : List ℕ) (vs : List ℤ) (piece : ℕ) (s : Search) (t : List ℤ) : Type 0 where
   pub sound : sound_of p ≡ true
-  pub fits : lent_sound p.channels ds vs fs ≡ true
-  pub searched : SearchedTo p (book_of p.channels ds (readings vs fs)) (total (take piece ds)) s
+  pub fits : record_sound p.channels ds vs ≡ true
+  pub searched : SearchedTo p (book_of p.channels ds vs) (total (take piece ds)) s
   pub first_long : cells_needed p ≤ length t
-  pub first : t ≡ written p (table_to p (book_of p.channels ds (readings vs fs)) (total (take piece ds))) t
+  pub first : t ≡ written p (table_to p (book_of p.channels ds vs) (total (take piece ds))) t

@@ -1,7 +1,6 @@
 // Best of a record: the record is fed to a monitor in chunks, and the best of the reports is kept.
 ghost use Rattle.std.specs.Prelude.{◌≡◌, ◌+◌, ◌≤◌, ◌<◌, length, take, get_or};
 ghost use Rattle.std.proofs.Math.Option.{none};
-ghost use Rattle.record.specs.Reading.{readings};
 ghost use Rattle.record.specs.Record.{total, book_of};
 ghost use Rattle.flags.specs.Flags.{Flagged};
 ghost use Rattle.monitor.specs.Cells.{layout, written};
@@ -87,26 +86,25 @@ pub fn choose_all(
     at
 }
 
-// Up to 64 ticks with the same sample. Of a second table only the length would count, so the first stands for it.
+// Up to 64 ticks with the same values. Of a second table only the length would count, so the first stands for it.
 fn feed_some(
     p: Pattern,
     ticks: u32,
     values: &[i32],
-    read: &[u8],
     s: Search,
     first: &mut [i64],
     flags: &mut [u32],
 ) -> Search
     requires { (ticks ≤ 64) × (s.state.ticks + ticks ≤ 2147483647)
-        × (feed_refusal p s.state first.old first.old (chunk_of ticks values.now read.now) ≡ none)
+        × (feed_refusal p s.state first.old first.old (chunk_of ticks values.now) ≡ none)
         × (Flagged (layout p) first.old flags.old) }
     ensures state_value { result.state
-        ≡ feed_state p s.state first.old first.old (chunk_of ticks values.now read.now) }
+        ≡ feed_state p s.state first.old first.old (chunk_of ticks values.now) }
     ensures choice_value { chosen_in result.choice ≡ chosen_past p (chosen_in s.choice) s.state.ticks
-        (feed_scores p s.state first.old first.old (chunk_of ticks values.now read.now))
-        (feed_lengths p s.state first.old first.old (chunk_of ticks values.now read.now)) ticks }
+        (feed_scores p s.state first.old first.old (chunk_of ticks values.now))
+        (feed_lengths p s.state first.old first.old (chunk_of ticks values.now)) ticks }
     ensures first_after { first.new
-        ≡ feed_first p s.state first.old first.old (chunk_of ticks values.now read.now) }
+        ≡ feed_first p s.state first.old first.old (chunk_of ticks values.now) }
     ensures flagged { Flagged (layout p) first.new flags.new }
 {
     let mut scores: [i64; 64] = [0; 64];
@@ -122,7 +120,6 @@ fn feed_some(
         flags,
         ticks,
         values,
-        read,
         &mut scores,
         &mut lengths,
     );
@@ -138,19 +135,18 @@ fn feed_part(
     p: Pattern,
     durations: &[u32],
     values: &[i32],
-    read: &[u8],
     piece: usize,
     count: u32,
     s: Search,
     first: &mut [i64],
     flags: &mut [u32],
 ) -> Search
-    requires { (Fit p durations.now values.now read.now piece s first.old) × (Flagged (layout p) first.old flags.old)
+    requires { (Fit p durations.now values.now piece s first.old) × (Flagged (layout p) first.old flags.old)
         × (piece < length durations.now) × (count ≤ get_or durations.now piece 0) }
-    ensures searched_to { SearchedTo p (book_of p.channels durations.now (readings values.now read.now))
+    ensures searched_to { SearchedTo p (book_of p.channels durations.now values.now)
         (total (take piece durations.now) + count) result }
     ensures first_after { first.new
-        ≡ written p (table_to p (book_of p.channels durations.now (readings values.now read.now))
+        ≡ written p (table_to p (book_of p.channels durations.now values.now)
         (total (take piece durations.now) + count)) first.old }
     ensures flagged { Flagged (layout p) first.new flags.new }
 {
@@ -161,15 +157,7 @@ fn feed_part(
     let mut search = s;
     while 0 < left {
         let ticks = least(left, 64);
-        search = feed_some(
-            p,
-            ticks,
-            &values[at..past],
-            &read[at..past],
-            search,
-            first,
-            flags,
-        );
+        search = feed_some(p, ticks, &values[at..past], search, first, flags);
         left -= ticks;
     }
     search
@@ -183,11 +171,9 @@ fn pass_rest(s: Search, rest: u32) -> Search
     let state = s.state;
     let choice = s.choice;
     let last = state.last;
-    let read = state.read;
     let later = State {
         ticks: state.ticks + rest,
         last: last,
-        read: read,
     };
     Search {
         state: later,
@@ -200,25 +186,24 @@ fn feed_whole(
     p: Pattern,
     durations: &[u32],
     values: &[i32],
-    read: &[u8],
     piece: usize,
     s: Search,
     first: &mut [i64],
     flags: &mut [u32],
 ) -> Search
-    requires { (Fit p durations.now values.now read.now piece s first.old) × (Flagged (layout p) first.old flags.old)
+    requires { (Fit p durations.now values.now piece s first.old) × (Flagged (layout p) first.old flags.old)
         × (piece < length durations.now) }
-    ensures searched_to { SearchedTo p (book_of p.channels durations.now (readings values.now read.now))
+    ensures searched_to { SearchedTo p (book_of p.channels durations.now values.now)
         (total (take (piece + 1) durations.now)) result }
     ensures first_after { first.new
-        ≡ written p (table_to p (book_of p.channels durations.now (readings values.now read.now))
+        ≡ written p (table_to p (book_of p.channels durations.now values.now)
         (total (take (piece + 1) durations.now))) first.old }
     ensures flagged { Flagged (layout p) first.new flags.new }
 {
     let duration = durations[piece];
     let still = p.high as u32 + 1;
     let moved = least(duration, still);
-    let search = feed_part(p, durations, values, read, piece, moved, s, first, flags);
+    let search = feed_part(p, durations, values, piece, moved, s, first, flags);
     pass_rest(search, duration - moved)
 }
 
@@ -227,23 +212,22 @@ fn feed_all(
     p: Pattern,
     durations: &[u32],
     values: &[i32],
-    read: &[u8],
     s: Search,
     first: &mut [i64],
     flags: &mut [u32],
 ) -> Search
-    requires { (Fit p durations.now values.now read.now 0 s first.old) × (Flagged (layout p) first.old flags.old) }
-    ensures searched_to { SearchedTo p (book_of p.channels durations.now (readings values.now read.now))
+    requires { (Fit p durations.now values.now 0 s first.old) × (Flagged (layout p) first.old flags.old) }
+    ensures searched_to { SearchedTo p (book_of p.channels durations.now values.now)
         (total durations.now) result }
     ensures first_after { first.new
-        ≡ written p (table_to p (book_of p.channels durations.now (readings values.now read.now))
+        ≡ written p (table_to p (book_of p.channels durations.now values.now)
         (total durations.now)) first.old }
     ensures flagged { Flagged (layout p) first.new flags.new }
 {
     let mut search = s;
     let mut i: usize = 0;
     while i < durations.len() {
-        search = feed_whole(p, durations, values, read, i, search, first, flags);
+        search = feed_whole(p, durations, values, i, search, first, flags);
         i += 1;
     }
     search
@@ -254,21 +238,19 @@ fn search_all(
     p: Pattern,
     durations: &[u32],
     values: &[i32],
-    read: &[u8],
     first: &mut [i64],
     second: &mut [i64],
 ) -> Choice
-    requires { best_refusal p durations.now values.now read.now (length first.old) (length second.old) ≡ none }
-    ensures result_value { chosen_in result ≡ chosen_of p (book_of p.channels durations.now (readings values.now read.now)) }
+    requires { best_refusal p durations.now values.now (length first.old) (length second.old) ≡ none }
+    ensures result_value { chosen_in result ≡ chosen_of p (book_of p.channels durations.now values.now) }
     ensures first_after { first.new
-        ≡ best_first p durations.now values.now read.now first.old second.old }
+        ≡ best_first p durations.now values.now first.old second.old }
     ensures second_after { second.new
-        ≡ best_second p durations.now values.now read.now first.old second.old }
+        ≡ best_second p durations.now values.now first.old second.old }
 {
     let zeros = State {
         ticks: 0,
         last: [0, 0, 0, 0, 0, 0, 0, 0],
-        read: [1, 1, 1, 1, 1, 1, 1, 1],
     };
     let mut flags: [u32; 4096] = [0; 4096];
     let opened = open(zeros, p, first, second);
@@ -283,25 +265,18 @@ fn search_all(
         state: state,
         choice: none,
     };
-    let end = feed_all(p, durations, values, read, s, first, &mut flags);
+    let end = feed_all(p, durations, values, s, first, &mut flags);
     end.choice
 }
 
 // 7, 8, then 11.
-fn refusal(
-    p: Pattern,
-    durations: &[u32],
-    values: &[i32],
-    read: &[u8],
-    first: usize,
-    second: usize,
-) -> Answer
-    ensures { result ≡ answer_of (best_refusal p durations.now values.now read.now first second) }
+fn refusal(p: Pattern, durations: &[u32], values: &[i32], first: usize, second: usize) -> Answer
+    ensures { result ≡ answer_of (best_refusal p durations.now values.now first second) }
 {
     if !sound(p) {
         return Answer::Refused(Refusal::UnsoundPattern);
     }
-    if !record_sound(p.channels, durations, values, read) {
+    if !record_sound(p.channels, durations, values) {
         return Answer::Refused(Refusal::BrokenRecord);
     }
     open_refusal(p, first, second)
@@ -325,22 +300,21 @@ pub fn best(
     p: Pattern,
     durations: &[u32],
     values: &[i32],
-    read: &[u8],
     first: &mut [i64],
     second: &mut [i64],
 ) -> Found
     ensures value { result
-        ≡ best_of p durations.now values.now read.now first.old second.old }
+        ≡ best_of p durations.now values.now first.old second.old }
     ensures result_value { found_as result
-        ≡ best_numbers p durations.now values.now read.now first.old second.old }
+        ≡ best_numbers p durations.now values.now first.old second.old }
     ensures first_after { first.new
-        ≡ best_first p durations.now values.now read.now first.old second.old }
+        ≡ best_first p durations.now values.now first.old second.old }
     ensures second_after { second.new
-        ≡ best_second p durations.now values.now read.now first.old second.old }
+        ≡ best_second p durations.now values.now first.old second.old }
 {
-    match refusal(p, durations, values, read, first.len(), second.len()) {
+    match refusal(p, durations, values, first.len(), second.len()) {
         Answer::Done => {
-            let f = search_all(p, durations, values, read, first, second);
+            let f = search_all(p, durations, values, first, second);
             told(f)
         }
         Answer::Refused(r) => Found::Refused(r),

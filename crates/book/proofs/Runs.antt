@@ -3,15 +3,14 @@ use Prim.Native.Nat.{ℕ, zero, suc, ◌+◌, ◌≤◌, ◌<◌}
 use native.Mathlib.Omega.{arith}
 use mathlib.Core.Path.{◌≡◌, refl, sym, ap, subst, ◌∙◌}
 use mathlib.Core.List.{List, [], ◌∷◌, map, Memᴰ}
-use mathlib.Core.Option.{none, some, some-injective, none-ne-some}
-use mathlib.Core.Bool.{Bool, true, false, cond, ◌&&◌}
+use mathlib.Core.Option.{some}
+use mathlib.Core.Bool.{Bool, true, false}
 use borrow.Author.Tests.{eqb-true, leb-true, ltb-true, eq-eqb, le-leb, lt-ltb}
-use lib.Dec.{T}
-use lib.ListN.{length, get_or, length-take}
+use lib.Dec.{T, eqb, leb, ltb}
+use lib.ListN.{length, take, get_or, length-take}
 use lib.Seq.{get_or-take}
 use lib.IntN.{ℤ}
 use Rattle.integers.proofs.Tests.{T_true, true_T, both_true}
-use Rattle.weighting.specs.Weighting.{combine_all}
 use Rattle.weighting.specs.Weightings.{weighting_of}
 use Rattle.pattern.specs.declared.Edge.{Edge}
 use Rattle.pattern.specs.declared.Pattern.{Pattern}
@@ -21,9 +20,8 @@ use Rattle.pattern.specs.Kinds as kinds
 use Rattle.pattern.specs.Clocks.{Clocks, zero_clocks, later, guards_hold, after_resets}
 use Rattle.pattern.proofs.SoundLaws.{both, parts}
 use Rattle.record.specs.Record.{Book}
-use Rattle.record.specs.Stay.{stay_open, stays_open}
-use Rattle.record.specs.Worth.{stay_worth, stay_worths, run_worth, price_of}
 use Rattle.record.specs.Run.{Step, can_step, goes, is_run, length_of}
+use Rattle.record.specs.Worth.{stay_worth, stay_worths, run_worth, price_of}
 use Rattle.record.proofs.PriceLaws.{priced_parts}
 use Rattle.walks.specs.Runs as walk
 use Rattle.walks.specs.Runs.{Leg, Goes, later as after, total, Run}
@@ -93,30 +91,18 @@ module _ (p : Pattern) (sound : sound_of p ≡ true) where
   plain-total [] = refl
   plain-total (x ∷ xs) = ap (λ (n : ℕ). x.stay + n) (plain-total xs)
 
-  -- what the stays are worth, if all can be stayed
+  -- what the stays are worth
   plain_worths : (b : Book) (t : ℕ) (xs : List Step) → t + length_of xs ≤ length b
-      → walk.stay_worths (weighting_of p.weighing) (automaton_of p) (view_of p b) t (map plain xs) ≡ cond (stays_open p b t xs) (some (stay_worths p b t xs)) none
-  unfolding walk.stay_worths stay_worths length_of stays_open
+      → walk.stay_worths (weighting_of p.weighing) (automaton_of p) (view_of p b) t (map plain xs) ≡ some (stay_worths p b t xs)
+  unfolding walk.stay_worths stay_worths length_of
   plain_worths b t [] h = refl
   plain_worths b t (x ∷ xs) h =
       rw (stay-together p b (edge_at p x.edge).from t x.stay (omega arith), plain_worths b (t + x.stay) xs (omega arith))
-      (by (stay_open p b (edge_at p x.edge).from t x.stay) (stays_open p b (t + x.stay) xs))
-    where
-      by : (y z : Bool) → walk.cons_if (cond y (some (stay_worth p b (edge_at p x.edge).from t x.stay)) none) (cond z (some (stay_worths p b (t + x.stay) xs)) none)
-          ≡ cond (y && z) (some (stay_worth p b (edge_at p x.edge).from t x.stay ∷ stay_worths p b (t + x.stay) xs)) none
-      by true true = refl
-      by true false = refl
-      by false true = refl
-      by false false = refl
 
   plain-worth : (b : Book) (t : ℕ) (xs : List Step) → t + length_of xs ≤ length b
-      → walk.run_worth (weighting_of p.weighing) (automaton_of p) (view_of p b) t (map plain xs) ≡ cond (stays_open p b t xs) (some (run_worth p b t xs)) none
+      → walk.run_worth (weighting_of p.weighing) (automaton_of p) (view_of p b) t (map plain xs) ≡ some (run_worth p b t xs)
   unfolding walk.run_worth run_worth
-  plain-worth b t xs h = rw (plain_worths b t xs h) (by (stays_open p b t xs))
-    where
-      by : (y : Bool) → walk.together (weighting_of p.weighing) (cond y (some (stay_worths p b t xs)) none) ≡ cond y (some (combine_all (weighting_of p.weighing) (stay_worths p b t xs))) none
-      by true = refl
-      by false = refl
+  plain-worth b t xs h = rw (plain_worths b t xs h)
 
   -- ---- from edges to numbers
 
@@ -156,14 +142,14 @@ module _ (p : Pattern) (sound : sound_of p ≡ true) where
 
   -- ---- runs
 
-  run_of : (b : Book) (begin end len : ℕ) (w : ℤ) (xs : List Step) → is_run p xs ≡ true → begin + length_of xs ≤ length b → stays_open p b begin xs ≡ true → run_worth p b begin xs ≡ w
+  run_of : (b : Book) (begin end len : ℕ) (w : ℤ) (xs : List Step) → is_run p xs ≡ true → begin + length_of xs ≤ length b → run_worth p b begin xs ≡ w
       → length_of xs ≡ len → begin + len ≡ end → Run (weighting_of p.weighing) (automaton_of p) (view_of p b) begin end len w
   unfolding is_run
-  run_of b begin end len w [] r h o v l e = absurd (no r)
+  run_of b begin end len w [] r h v l e = absurd (no r)
     where
       no : ◌≡◌ {A = Bool} false true → ⊥
       no e = let z : ◌≡◌ {A = ℕ} 0 1 = cc in omega arith
-  run_of b begin end len w (x ∷ xs) r h o v l e =
+  run_of b begin end len w (x ∷ xs) r h v l e =
       let a = both (kinds.is_start (place_at p (edge_at p x.edge).from).kind) _ r in
       record {
         steps = map plain (x ∷ xs);
@@ -173,12 +159,12 @@ module _ (p : Pattern) (sound : sound_of p ≡ true) where
         has_steps = tt;
         lasts = plain-total (x ∷ xs) ∙ l;
         ends = e;
-        is_worth = plain-worth b begin (x ∷ xs) h ∙ rw o (ap some v);
+        is_worth = plain-worth b begin (x ∷ xs) h ∙ ap some v;
       }
 
-  price_of_lem : (b : Book) (begin : ℕ) (xs : List Step) → is_run p xs ≡ true → begin + length_of xs ≤ length b → stays_open p b begin xs ≡ true → price_of p b begin xs ≡ some (run_worth p b begin xs)
+  price_of_lem : (b : Book) (begin : ℕ) (xs : List Step) → is_run p xs ≡ true → begin + length_of xs ≤ length b → price_of p b begin xs ≡ some (run_worth p b begin xs)
   unfolding price_of
-  price_of_lem b begin xs r h o = rw (both_true _ _ (both_true _ _ r (le-leb _ _ h)) o)
+  price_of_lem b begin xs r h = rw (both_true _ _ r (le-leb _ _ h))
 
   is-run : (k : ℕ) (xs : List Step) → T (walk.non_empty (map plain xs)) → kinds.is_start (place_at p k).kind ≡ true → goes p k zero_clocks xs ≡ true → is_run p xs ≡ true
   unfolding is_run goes can_step
@@ -189,10 +175,6 @@ module _ (p : Pattern) (sound : sound_of p ≡ true) where
       let starts : kinds.is_start (place_at p (edge_at p x.edge).from).kind ≡ true = rw f s in
       let going : goes p (edge_at p x.edge).from zero_clocks (x ∷ xs) ≡ true = subst (λ (n : ℕ). goes p n zero_clocks (x ∷ xs) ≡ true) (sym f) g in
       both_true _ _ starts going
-
-  opened : (t : Bool) (v w : ℤ) → cond t (some v) none ≡ some w → (t ≡ true) × (v ≡ w)
-  opened true v w e = (refl, some-injective v w e)
-  opened false v w e = absurd (none-ne-some w e)
 
   priced_of_lem : (b : Book) (begin end len : ℕ) (w : ℤ) → end ≤ length b
       → Run (weighting_of p.weighing) (automaton_of p) (view_of p b) begin end len w → PricedRun p b begin end len w
@@ -206,12 +188,11 @@ module _ (p : Pattern) (sound : sound_of p ≡ true) where
       let low : begin + length_of xs ≤ length b = omega arith in
       let v : walk.run_worth (weighting_of p.weighing) (automaton_of p) (view_of p b) begin (map plain xs) ≡ some w =
       subst (λ (ys : List (walk.Step Edge)). walk.run_worth (weighting_of p.weighing) (automaton_of p) (view_of p b) begin ys ≡ some w) (sym same) u.is_worth in
-      let o = opened (stays_open p b begin xs) (run_worth p b begin xs) w (sym (plain-worth b begin xs low) ∙ v) in
-      record { steps = xs; price = price_of_lem b begin xs run low o.0 ∙ ap some o.1; lasts = l; ends = e }
+      record { steps = xs; price = price_of_lem b begin xs run low ∙ sym (plain-worth b begin xs low) ∙ v; lasts = l; ends = e }
 
 pub priced_are_runs : PricedAreRuns
 priced_are_runs p sound b begin end len w h = (
   (λ q. let k = priced_parts p b begin q.steps w q.price in
-      run_of p sound b begin end len w q.steps k.run k.inside k.opens k.worth q.lasts q.ends),
+      run_of p sound b begin end len w q.steps k.0 k.1 k.2 q.lasts q.ends),
   priced_of_lem p sound b begin end len w h,
 )

@@ -4,7 +4,7 @@ use native.Mathlib.Omega.{arith}
 use mathlib.Core.Path.{◌≡◌, refl, sym, ap, subst, ◌∙◌}
 use mathlib.Core.List.{List, [], ◌∷◌, ◌++◌}
 use mathlib.Core.Option.{Option, none, some, some-injective, none-ne-some}
-use mathlib.Core.Bool.{Bool, true, false, cond, ◌&&◌, and-true, and_assoc}
+use mathlib.Core.Bool.{Bool, true, false, cond}
 use lib.Dec.{T, eqb}
 use lib.ListN.{length}
 use lib.IntN.{ℤ}
@@ -18,26 +18,24 @@ use Rattle.pattern.specs.Sound.{sound_of}
 use Rattle.pattern.specs.InUse.{place_at, edge_at}
 use Rattle.pattern.specs.Kinds as kinds
 use Rattle.pattern.specs.Clocks.{Clocks, zero_clocks, later, guards_hold, after_resets}
-use Rattle.pattern.proofs.SoundLaws.{both}
 use Rattle.record.specs.Record.{Book}
 use Rattle.record.specs.Joined.{joined, observed}
-use Rattle.record.specs.Stay.{can_stay, stay_open, stays_open}
-use Rattle.record.specs.Worth.{stay_worth, stay_worths}
 use Rattle.record.specs.Run.{Step, can_step, clocks_after, length_of}
+use Rattle.record.specs.Worth.{stay_worth, stay_worths}
 use Rattle.walks.specs.Automaton.{State, entering, stayed, taken}
 use Rattle.walks.specs.Walks.{Takes, Move, stays, takes, Reach, held, begin, move}
 use Rattle.walks.specs.Runs as walk
-use Rattle.walks.specs.Runs.{Leg}
+use Rattle.walks.specs.Runs.{Leg, stay_gains, together}
 use Rattle.walks.specs.Tables.{opening}
 use Rattle.walks.proofs.States.{opening-holds}
-use Rattle.walks.proofs.Gains.{not_first}
-use Rattle.walks.proofs.RunToWalk.{begins}
+use Rattle.walks.proofs.Gains.{not_first, stay-more}
+use Rattle.walks.proofs.RunToWalk.{of_together, begins}
 use Rattle.walks.proofs.RunsAreWalks.{runs_are_walks}
 use Rattle.book.specs.Automaton.{automaton_of, same_clocks}
 use Rattle.book.specs.View.{gain_in, sample_at, before, view_of}
 use Rattle.book.specs.Unfinished.{led_to, standing, worth_so_far, Unfinished}
 use Rattle.book.specs.Claims.{UnfinishedAreReached, RunsWereUnfinished}
-use Rattle.book.proofs.StayGains.{gains_are_worths, all-worth, Gained, gained, stay-longer, open_longer}
+use Rattle.book.proofs.StayGains.{gains_are_worths, all-worth, stay-together}
 use Rattle.book.proofs.Runs.{add-zeros, after-later, plain, leg, step_of, priced_are_runs}
 
 -- ---- clocks, a tick more
@@ -60,18 +58,6 @@ worths_snoc p b t [] x = let e : t + 0 ≡ t = omega arith in rw e
 worths_snoc p b t (y ∷ xs) x =
     let e : t + (y.stay + length_of xs) ≡ t + y.stay + length_of xs = omega arith in
     rw (e, worths_snoc p b (t + y.stay) xs x)
-
-open_none : (p : Pattern) (b : Book) (k t : ℕ) → stay_open p b k t 0 ≡ true
-unfolding stay_open
-open_none p b k t = refl
-
-open_snoc : (p : Pattern) (b : Book) (t : ℕ) (xs : List Step) (x : Step)
-    → stays_open p b t (xs ++ (x ∷ [])) ≡ stays_open p b t xs && stay_open p b (edge_at p x.edge).from (t + length_of xs) x.stay
-unfolding stays_open length_of
-open_snoc p b t [] x = let e : t + 0 ≡ t = omega arith in rw e (and-true _)
-open_snoc p b t (y ∷ xs) x =
-    let e : t + (y.stay + length_of xs) ≡ t + y.stay + length_of xs = omega arith in
-    rw (e, open_snoc p b (t + y.stay) xs x) (sym (and_assoc (stay_open p b (edge_at p y.edge).from t y.stay) (stays_open p b (t + y.stay) xs) _))
 
 -- the first step can be made, and the others from where it leads
 led_parts : (p : Pattern) (k : ℕ) (cs : Clocks) (x : Step) (xs : List Step) (there : ℕ × Clocks) → led_to p k cs (x ∷ xs) ≡ some there
@@ -106,14 +92,22 @@ module _ (p : Pattern) (b : Book) where
   abbrev gain : ℕ → Bool → ℕ → ℤ
   gain t f k = gain_in p.weighing (place_at p k) (before p b t) (sample_at b t) f
 
-  -- ---- a stay of no tick; a tick that can be stayed in
+  -- ---- a stay of no tick, and one of a tick more
 
   stay_none : (k t : ℕ) → stay_worth p b k t 0 ≡ 𝓦.unit
   unfolding stay_worth observed joined combine_from
   stay_none k t = refl
 
-  seen : (t : ℕ) (f : Bool) (k : ℕ) → can_stay (place_at p k) (sample_at b t) ≡ true → view_of p b t f k ≡ some (gain t f k)
-  seen t f k e = rw e
+  stay_grows : (k t n : ℕ) → t + suc n ≤ length b → stay_worth p b k t (suc n) ≡ 𝓦.combine (stay_worth p b k t n) (gain (t + n) (eqb n 0) k)
+  stay_grows k t n h =
+      let l = of_together 𝓦 (stay_gains (view_of p b) true t k n) (stay_worth p b k t n) (stay-together p b k t n (omega arith)) in
+      let e = stay-more (view_of p b) n true t k l.0 (gain (t + n) (eqb n 0) k) l.1 (seen n) in
+      some-injective _ _ (sym (stay-together p b k t (suc n) h) ∙ ap (together 𝓦) e ∙ ap some (combine_all_snoc 𝓦 l.0 (gain (t + n) (eqb n 0) k)))
+      ∙ ap (λ (w : ℤ). 𝓦.combine w (gain (t + n) (eqb n 0) k)) l.2
+    where
+      seen : (n : ℕ) → view_of p b (t + n) (cond (eqb n 0) true false) k ≡ some (gain (t + n) (eqb n 0) k)
+      seen zero = refl
+      seen (suc n) = rw (not_first n)
 
   stay-worth : (k t n : ℕ) → T (𝓦.worth (stay_worth p b k t n))
   unfolding stay_worth
@@ -126,7 +120,7 @@ module _ (p : Pattern) (b : Book) where
   so_far_grows t xs k n h =
       let z : t + length_of xs + n ≡ t + (length_of xs + n) = omega arith in
       combine_all_snoc 𝓦 (stay_worths p b t xs) (stay_worth p b k (t + length_of xs) (suc n))
-      ∙ ap (𝓦.combine (combine_all 𝓦 (stay_worths p b t xs))) (stay-longer p b k (t + length_of xs) n (omega arith) ∙ ap (λ (i : ℕ). 𝓦.combine (stay_worth p b k (t + length_of xs) n) (gain i (eqb n 0) k)) z)
+      ∙ ap (𝓦.combine (combine_all 𝓦 (stay_worths p b t xs))) (stay_grows k (t + length_of xs) n (omega arith) ∙ ap (λ (i : ℕ). 𝓦.combine (stay_worth p b k (t + length_of xs) n) (gain i (eqb n 0) k)) z)
       ∙ sym (𝓦.assoc (combine_all 𝓦 (stay_worths p b t xs)) (stay_worth p b k (t + length_of xs) n) (gain (t + (length_of xs + n)) (eqb n 0) k))
       ∙ ap (λ (w : ℤ). 𝓦.combine w (gain (t + (length_of xs + n)) (eqb n 0) k)) (sym (combine_all_snoc 𝓦 (stay_worths p b t xs) (stay_worth p b k (t + length_of xs) n)))
 
@@ -151,7 +145,7 @@ module _ (p : Pattern) (b : Book) where
     -- ---- what is reached is an unfinished run
 
     fresh : (n k : ℕ) → T (kinds.is_start (place_at p k).kind) → Unfinished p b n (entering (automaton_of p) k) 𝓦.unit
-    unfolding led_to length_of stays_open stay_open
+    unfolding led_to length_of
     fresh n k h =
         record {
           begin = n;
@@ -163,34 +157,21 @@ module _ (p : Pattern) (b : Book) where
           stay = 0;
           lasts = omega arith;
           state = refl;
-          left_open = refl;
-          here_open = refl;
           is_worth = so_far-none n k;
         }
 
-    module _ (n : ℕ) (low : suc n ≤ length b) (s : State Clocks) (w g : ℤ) (u : Unfinished p b n s w) (seen-so : view_of p b n s.entered s.place ≡ some g) where
+    module _ (n : ℕ) (low : suc n ≤ length b) (s : State Clocks) (w g : ℤ) (u : Unfinished p b n s w) (gained : view_of p b n s.entered s.place ≡ some g) where
       abbrev k : ℕ
       k = u.there.0
 
       abbrev cs : Clocks
       cs = u.there.1
 
-      -- the tick can be stayed in, and what it gains
-      ticked : Gained p (before p b n) (sample_at b n) (eqb u.stay 0) k g
-      ticked = gained p (before p b n) (sample_at b n) (eqb u.stay 0) k g (ap (λ (y : State Clocks). view_of p b n y.entered y.place) u.state ∙ seen-so)
-
-      -- the stay with the tick
-      open_here : stay_open p b k (u.begin + length_of u.steps) (suc u.stay) ≡ true
-      open_here =
-          let z = u.lasts in
-          let m : u.begin + length_of u.steps + u.stay ≡ n = omega arith in
-          open_longer p b k (u.begin + length_of u.steps) u.stay (omega arith) ∙ rw (u.here_open, m) ticked.stays
-
       -- the worth after the tick
       after-tick : worth_so_far p b u.begin u.steps k (suc u.stay) ≡ 𝓦.combine w g
       after-tick =
           let z = u.lasts in
-          let q : gain n (eqb u.stay 0) k ≡ g = ticked.is in
+          let q : gain n (eqb u.stay 0) k ≡ g = some-injective _ g (ap (λ (y : State Clocks). view_of p b n y.entered y.place) u.state ∙ gained) in
           so_far_grows u.begin u.steps k u.stay (omega arith)
           ∙ rw (u.is_worth, z, q)
 
@@ -210,8 +191,6 @@ module _ (p : Pattern) (b : Book) where
             stay = suc u.stay;
             lasts = omega arith;
             state = grown ∙ ap (stayed (automaton_of p)) u.state;
-            left_open = u.left_open;
-            here_open = open_here;
             is_worth = after-tick;
           }
 
@@ -253,8 +232,6 @@ module _ (p : Pattern) (b : Book) where
                   stay = 0;
                   lasts = omega arith;
                   state = grown ∙ ap (taken (automaton_of p) e) u.state;
-                  left_open = open_snoc p b u.begin u.steps x ∙ rw (u.left_open, from, long) open_here;
-                  here_open = open_none p b (edge_at p x.edge).to (u.begin + length_of (u.steps ++ (x ∷ [])));
                   is_worth = so_far-edge u.begin u.steps x (edge_at p x.edge).to ∙ rw (from, long) after-tick;
                 }
 
@@ -279,61 +256,58 @@ module _ (p : Pattern) (b : Book) where
     abbrev into : (len k : ℕ) → Clocks → (n : ℕ) → State Clocks
     into len k cs n = record { len = len + n; entered = eqb n 0; place = k; clocks = later n cs }
 
-    stays_on : (n m len k : ℕ) (cs : Clocks) (v : ℤ) → R m (just len k cs) v → T (𝓦.worth v) → len + n ≤ high → m + n ≤ length b → stay_open p b k m n ≡ true
+    stays_on : (n m len k : ℕ) (cs : Clocks) (v : ℤ) → R m (just len k cs) v → T (𝓦.worth v) → len + n ≤ high → m + n ≤ length b
         → R (m + n) (into len k cs n) (𝓦.combine v (stay_worth p b k m n))
-    stays_on zero m len k cs v r o h l w =
+    stays_on zero m len k cs v r o h l =
         let z : m + 0 ≡ m = omega arith in
         let y : len + 0 ≡ len = omega arith in
         rw (z, y, add-zeros cs, stay_none k m, 𝓦.unit_right v o) r
-    stays_on (suc n) m len k cs v r o h l w =
-        let c = both (stay_open p b k m n) _ (sym (open_longer p b k m n (omega arith)) ∙ w) in
+    stays_on (suc n) m len k cs v r o h l =
         let z : m + suc n ≡ suc (m + n) = omega arith in
         let y : len + suc n ≡ suc (len + n) = omega arith in
         let q : R (suc (m + n)) (stayed (automaton_of p) (into len k cs n)) (𝓦.combine (𝓦.combine v (stay_worth p b k m n)) (gain (m + n) (eqb n 0) k)) =
-        move (stays_on n m len k cs v r o (omega arith) (omega arith) c.0) (seen (m + n) (eqb n 0) k c.1) (stays (omega arith)) in
-        rw (z, y, not_first n, tick-more n cs, stay-longer p b k m n (omega arith), ← 𝓦.assoc v (stay_worth p b k m n) (gain (m + n) (eqb n 0) k)) q
+        move (stays_on n m len k cs v r o (omega arith) (omega arith)) refl (stays (omega arith)) in
+        rw (z, y, not_first n, tick-more n cs, stay_grows k m n (omega arith), ← 𝓦.assoc v (stay_worth p b k m n) (gain (m + n) (eqb n 0) k)) q
 
     makes : (x : Step) (m len k : ℕ) (cs : Clocks) (v : ℤ) → R m (just len k cs) v → T (𝓦.worth v) → can_step p k cs x ≡ true
-        → len + x.stay ≤ high → m + x.stay ≤ length b → stay_open p b k m x.stay ≡ true
+        → len + x.stay ≤ high → m + x.stay ≤ length b
         → R (m + x.stay) (just (len + x.stay) (edge_at p x.edge).to (clocks_after p cs x)) (𝓦.combine v (stay_worth p b k m x.stay))
-    makes x m len k cs v r o c h l w =
+    makes x m len k cs v r o c h l =
         let d = leg p sound k cs x c in
-        go x.stay d.stays (rw (after-later p x.stay cs) at d.guarded) h l w
+        go x.stay d.stays (rw (after-later p x.stay cs) at d.guarded) h l
       where
         e : Edge
         e = edge_at p x.edge
 
-        go : (n : ℕ) → 1 ≤ n → T (guards_hold (later n cs) e) → len + n ≤ high → m + n ≤ length b → stay_open p b k m n ≡ true
+        go : (n : ℕ) → 1 ≤ n → T (guards_hold (later n cs) e) → len + n ≤ high → m + n ≤ length b
             → R (m + n) (just (len + n) e.to (after_resets e (later n cs))) (𝓦.combine v (stay_worth p b k m n))
-        go zero a g h l w = absurd (omega arith)
-        go (suc n) a g h l w =
-            let f = both (stay_open p b k m n) _ (sym (open_longer p b k m n (omega arith)) ∙ w) in
+        go zero a g h l = absurd (omega arith)
+        go (suc n) a g h l =
             let d = leg p sound k cs x c in
             let z : m + suc n ≡ suc (m + n) = omega arith in
             let y : len + suc n ≡ suc (len + n) = omega arith in
             let t : Takes (automaton_of p) (into len k cs n) e = record { known = d.known; fits = d.fits; guarded = rw (tick-more n cs) at g } in
             let q : R (suc (m + n)) (taken (automaton_of p) e (into len k cs n)) (𝓦.combine (𝓦.combine v (stay_worth p b k m n)) (gain (m + n) (eqb n 0) k)) =
-            move (stays_on n m len k cs v r o (omega arith) (omega arith) f.0) (seen (m + n) (eqb n 0) k f.1) (takes (omega arith) t) in
-            rw (z, y, tick-more n cs, stay-longer p b k m n (omega arith), ← 𝓦.assoc v (stay_worth p b k m n) (gain (m + n) (eqb n 0) k)) q
+            move (stays_on n m len k cs v r o (omega arith) (omega arith)) refl (takes (omega arith) t) in
+            rw (z, y, tick-more n cs, stay_grows k m n (omega arith), ← 𝓦.assoc v (stay_worth p b k m n) (gain (m + n) (eqb n 0) k)) q
 
     goes_on : (xs : List Step) (m len k : ℕ) (cs : Clocks) (v : ℤ) (there : ℕ × Clocks) → R m (just len k cs) v → T (𝓦.worth v) → led_to p k cs xs ≡ some there
-        → len + length_of xs ≤ high → m + length_of xs ≤ length b → stays_open p b m xs ≡ true
+        → len + length_of xs ≤ high → m + length_of xs ≤ length b
         → R (m + length_of xs) (just (len + length_of xs) there.0 there.1) (combine_from 𝓦 v (stay_worths p b m xs))
-    unfolding led_to length_of stay_worths stays_open combine_from
-    goes_on [] m len k cs v there r o e h l w =
+    unfolding led_to length_of stay_worths combine_from
+    goes_on [] m len k cs v there r o e h l =
         let z : m + 0 ≡ m = omega arith in
         let y : len + 0 ≡ len = omega arith in
         rw (z, y) (subst (λ (q : ℕ × Clocks). R m (just len q.0 q.1) v) (some-injective (k, cs) there e) r)
-    goes_on (x ∷ xs) m len k cs v there r o e h l w =
+    goes_on (x ∷ xs) m len k cs v there r o e h l =
         let a = led_parts p k cs x xs there e in
         let f : (edge_at p x.edge).from ≡ k = (leg p sound k cs x a.0).fits in
         let z : m + (x.stay + length_of xs) ≡ m + x.stay + length_of xs = omega arith in
         let y : len + (x.stay + length_of xs) ≡ len + x.stay + length_of xs = omega arith in
-        let c = both (stay_open p b (edge_at p x.edge).from m x.stay) _ w in
-        let q = makes x m len k cs v r o a.0 (omega arith) (omega arith) (subst (λ (i : ℕ). stay_open p b i m x.stay ≡ true) f c.0) in
+        let q = makes x m len k cs v r o a.0 (omega arith) (omega arith) in
         rw (z, y, f)
         (goes_on xs (m + x.stay) (len + x.stay) (edge_at p x.edge).to (clocks_after p cs x) (𝓦.combine v (stay_worth p b k m x.stay)) there q
-        (𝓦.combine_worth v (stay_worth p b k m x.stay) o (stay-worth k m x.stay)) a.1 (omega arith) (omega arith) c.1)
+        (𝓦.combine_worth v (stay_worth p b k m x.stay) o (stay-worth k m x.stay)) a.1 (omega arith) (omega arith))
 
     pub is-reached : (now : ℕ) (s : State Clocks) (w : ℤ) → now ≤ length b → s.len ≤ high → Unfinished p b now s w → R now s w
     unfolding worth_so_far
@@ -341,9 +315,9 @@ module _ (p : Pattern) (b : Book) where
         let z = u.lasts in
         let y : length_of u.steps + u.stay ≤ high = subst (λ (q : State Clocks). q.len ≤ high) (sym u.state) h in
         let r = goes_on u.steps u.begin 0 u.first zero_clocks 𝓦.unit u.there
-        (begins 𝓦 (automaton_of p) (view_of p b) same_clocks high u.begin u.first (true_T _ u.starts)) 𝓦.unit_worth u.leads (omega arith) (omega arith) u.left_open in
+        (begins 𝓦 (automaton_of p) (view_of p b) same_clocks high u.begin u.first (true_T _ u.starts)) 𝓦.unit_worth u.leads (omega arith) (omega arith) in
         let q = stays_on u.stay (u.begin + length_of u.steps) (0 + length_of u.steps) u.there.0 u.there.1 (combine_all 𝓦 (stay_worths p b u.begin u.steps)) r
-        (all-worth p.weighing (stay_worths p b u.begin u.steps)) (omega arith) (omega arith) u.here_open in
+        (all-worth p.weighing (stay_worths p b u.begin u.steps)) (omega arith) (omega arith) in
         let e : u.begin + length_of u.steps + u.stay ≡ now = omega arith in
         let f : 0 + length_of u.steps ≡ length_of u.steps = omega arith in
         let v : 𝓦.combine (combine_all 𝓦 (stay_worths p b u.begin u.steps)) (stay_worth p b u.there.0 (u.begin + length_of u.steps) u.stay) ≡ w =

@@ -9,9 +9,8 @@ use Rattle.pattern.specs.InUse.{place_at, edge_at}
 use Rattle.pattern.specs.Kinds.{is_start}
 use Rattle.pattern.specs.Clocks.{Clocks, zero_clocks, later}
 use Rattle.record.specs.Record.{Book}
-use Rattle.record.specs.Stay.{stay_open, stays_open}
-use Rattle.record.specs.Worth.{stay_worth, stay_worths}
 use Rattle.record.specs.Run.{Step, can_step, clocks_after, length_of}
+use Rattle.record.specs.Worth.{stay_worth, stay_worths}
 use Rattle.walks.specs.Automaton.{State}
 
 -- Where steps lead, made one after the other from a place with the clocks as they were on entering it: the place entered
@@ -33,8 +32,7 @@ worth_so_far p b begin xs k n =
     combine_all (weighting_of p.weighing) (stay_worths p b begin xs ++ (stay_worth p b k (begin + length_of xs) n ∷ []))
 
 -- An unfinished run that is in the state s at the time `now`, worth w. "It enters a start place at b, all clocks 0"; then
--- come its steps, none or more; then its present stay, of no tick if the place was entered just now. Every
--- tick of every stay can be stayed in.
+-- come its steps, none or more; then its present stay, of no tick if the place was entered just now.
 pub record Unfinished (p : Pattern) (b : Book) (now : ℕ) (s : State Clocks) (w : ℤ) : Type 0 where
   pub begin : ℕ
   pub first : ℕ
@@ -45,6 +43,4 @@ pub record Unfinished (p : Pattern) (b : Book) (now : ℕ) (s : State Clocks) (w
   pub stay : ℕ
   pub lasts : begin + (length_of steps + stay) ≡ now
   pub state : standing steps there stay ≡ s
-  pub left_open : stays_open p b begin steps ≡ true
-  pub here_open : stay_open p b there.0 (begin + length_of steps) stay ≡ true
   pub is_worth : worth_so_far p b begin steps there.0 stay ≡ w

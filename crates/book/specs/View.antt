@@ -1,17 +1,15 @@
 -- What a tick does to the worth of a run that stays in a place through it: the view of ticks that a book gives.
 use Rattle.std.specs.Prelude.{ℕ, zero, suc, List, [], ◌∷◌, Bool, true, false, not, cond, ◌||◌, get_or, replicate, ℤ, pos}
-use Rattle.std.proofs.Math.Option.{none, some}
+use Rattle.std.proofs.Math.Option.{some}
 use Rattle.weighting.specs.declared.Weighing.{Weighing}
 use Rattle.weighting.specs.declared.Weighing.TheVariants.{Margin, Sum}
 use Rattle.weighting.specs.Weightings.{weighting_of}
 use Rattle.pattern.specs.declared.Place.{Place}
 use Rattle.pattern.specs.declared.Pattern.{Pattern}
 use Rattle.pattern.specs.InUse.{place_at}
-use Rattle.record.specs.Reading.{Sample}
+use Rattle.pattern.specs.Distance.{Sample, place_worth}
 use Rattle.record.specs.Record.{Book}
 use Rattle.record.specs.Joined.{agrees}
-use Rattle.record.specs.Stay.{can_stay}
-use Rattle.record.specs.Worth.{worth_in}
 use Rattle.walks.specs.Automaton.{TickView, View}
 
 -- ---- what a tick gains, by any test of neighbours and any worth of a tick
@@ -36,19 +34,18 @@ gains_by w same worth last entered (x ∷ b) = gain_by w same worth last x enter
 -- In a place, by the samples of the tick before and of the tick now: "a staying cell meets a new piece" (document 01, 'Monitor
 -- tables') where these do not agree in the place (document 02, R-3).
 abbrev pub gain_in : Weighing → Place → (last now : Sample) → (entered : Bool) → ℤ
-gain_in w l = gain_by w (agrees l) (worth_in w l)
+gain_in w l = gain_by w (agrees l) (place_worth w l)
 
--- In every place of a pattern, just entered or stayed in; none where the place cannot be stayed in now (document 02, R-7).
+-- In every place of a pattern. Each can be stayed in.
 abbrev pub tick_view : Pattern → (last now : Sample) → TickView ℤ
-tick_view p last now entered k =
-    cond (can_stay (place_at p k) now) (some (gain_in p.weighing (place_at p k) last now entered)) none
+tick_view p last now entered k = some (gain_in p.weighing (place_at p k) last now entered)
 
 abbrev pub sample_at : Book → (t : ℕ) → Sample
 sample_at b t = get_or b t []
 
--- The sample before tick t: that of the tick before, and before tick 0 "zeros before the first piece", which count as read.
+-- The values before tick t: those of the tick before, and before tick 0 "zeros before the first piece".
 unfoldable pub before : Pattern → Book → (t : ℕ) → Sample
-before p b zero = replicate p.channels (some (pos 0))
+before p b zero = replicate p.channels (pos 0)
 before p b (suc t) = sample_at b t
 
 -- All ticks of a book.

@@ -27,10 +27,9 @@ fn at_most_one() -> Pattern {
 fn price_answer(p: Pattern, stay: u32) -> u64 {
     let durations: [u32; 1] = [5];
     let values: [i32; 1] = [10];
-    let read: [u8; 1] = [1];
     let edges: [u32; 1] = [0];
     let stays: [u32; 1] = [stay];
-    priced_answer(price(p, &durations, &values, &read, 0, &edges, &stays))
+    priced_answer(price(p, &durations, &values, 0, &edges, &stays))
 }
 
 // The end of the best run of 5 ticks, 0 if there is none.
@@ -39,8 +38,7 @@ fn best_end(p: Pattern) -> u64 {
     let mut second: [i64; 30] = [0; 30];
     let durations: [u32; 1] = [5];
     let values: [i32; 1] = [10];
-    let read: [u8; 1] = [1];
-    match best(p, &durations, &values, &read, &mut first, &mut second) {
+    match best(p, &durations, &values, &mut first, &mut second) {
         Found::Run(end, _, _) => end as u64,
         Found::Nothing => 0,
         Found::Refused(_) => 99,

@@ -11,7 +11,6 @@ fn zeros() -> State {
     State {
         ticks: 0,
         last: [0, 0, 0, 0, 0, 0, 0, 0],
-        read: [1, 1, 1, 1, 1, 1, 1, 1],
     }
 }
 
@@ -25,7 +24,6 @@ fn feed_answer(p: Pattern, first: &mut [i64], second: &mut [i64]) -> u64 {
     let mut scores: [i64; 1] = [0];
     let mut lengths: [u32; 1] = [0];
     let values: [i32; 1] = [10];
-    let read: [u8; 1] = [1];
     let after = feed_through(
         zeros(),
         p,
@@ -33,7 +31,6 @@ fn feed_answer(p: Pattern, first: &mut [i64], second: &mut [i64]) -> u64 {
         second,
         1,
         &values,
-        &read,
         &mut scores,
         &mut lengths,
     );
@@ -44,8 +41,7 @@ fn feed_answer(p: Pattern, first: &mut [i64], second: &mut [i64]) -> u64 {
 fn best_answer(p: Pattern, first: &mut [i64], second: &mut [i64]) -> u64 {
     let durations: [u32; 1] = [2];
     let values: [i32; 1] = [10];
-    let read: [u8; 1] = [1];
-    let f = best(p, &durations, &values, &read, first, second);
+    let f = best(p, &durations, &values, first, second);
     found_answer(f)
 }
 

@@ -11,8 +11,8 @@ abbrev pub opened_of : Pattern → (first second : List ℤ) → State → After
 opened_of p t u s = record { state = open_state p t u s; answer = open_answer p t u }
 
 -- What a call brings beside the pattern, the state and the tables.
-abbrev pub call_of : (duration : ℕ) → (values : List ℤ) → (flags : List ℕ) → (scores : List ℤ) → (lengths : List ℕ) → Call
-call_of d vs fs scores lengths = record { duration = d; values = vs; read = fs; scores = scores; lengths = lengths }
+abbrev pub call_of : (duration : ℕ) → (values : List ℤ) → (scores : List ℤ) → (lengths : List ℕ) → Call
+call_of d vs scores lengths = record { duration = d; values = vs; scores = scores; lengths = lengths }
 
 -- what `feed` hands back
 abbrev pub fed_of : Pattern → State → (first second : List ℤ) → Call → After

@@ -12,14 +12,13 @@ use feed_moves::{feed_piece, mark_all, open_both};
 use monitor::{After, Answer, State};
 use pattern::Pattern;
 
-// No ticks, zeros, all of them read.
+// No ticks, zeros.
 fn no_ticks() -> State
     ensures { result ≡ no_ticks }
 {
     State {
         ticks: 0,
         last: [0, 0, 0, 0, 0, 0, 0, 0],
-        read: [1, 1, 1, 1, 1, 1, 1, 1],
     }
 }
 
@@ -54,22 +53,21 @@ fn feed_with(
     second: &mut [i64],
     duration: u32,
     values: &[i32],
-    read: &[u8],
     scores: &mut [i64],
     lengths: &mut [u32],
     flags: &mut [u32],
 ) -> After
     requires { sound_of p ≡ true → p.high < length flags.old }
     ensures value { result ≡ fed_of p s first.old second.old
-        (call_of duration values.now read.now scores.old lengths.old) }
+        (call_of duration values.now scores.old lengths.old) }
     ensures first_after { first.new ≡ feed_first p s first.old second.old
-        (call_of duration values.now read.now scores.old lengths.old) }
+        (call_of duration values.now scores.old lengths.old) }
     ensures second_after { second.new ≡ feed_second p s first.old second.old
-        (call_of duration values.now read.now scores.old lengths.old) }
+        (call_of duration values.now scores.old lengths.old) }
     ensures scores_after { scores.new ≡ feed_scores p s first.old second.old
-        (call_of duration values.now read.now scores.old lengths.old) }
+        (call_of duration values.now scores.old lengths.old) }
     ensures lengths_after { lengths.new ≡ feed_lengths p s first.old second.old
-        (call_of duration values.now read.now scores.old lengths.old) }
+        (call_of duration values.now scores.old lengths.old) }
 {
     match feed_refusal(
         p,
@@ -78,16 +76,13 @@ fn feed_with(
         second.len(),
         duration,
         values,
-        read,
         scores.len(),
         lengths.len(),
         flags,
     ) {
         Answer::Done => {
             let l = layout_of(p, p.high);
-            let state = feed_piece(
-                s, p, l, first, flags, duration, values, read, scores, lengths,
-            );
+            let state = feed_piece(s, p, l, first, flags, duration, values, scores, lengths);
             mark_all(p, l, second);
             After {
                 state: state,
@@ -110,31 +105,30 @@ pub fn feed(
     second: &mut [i64],
     duration: u32,
     values: &[i32],
-    read: &[u8],
     scores: &mut [i64],
     lengths: &mut [u32],
 ) -> After
     ensures value { result ≡ fed_of p s first.old second.old
-        (call_of duration values.now read.now scores.old lengths.old) }
+        (call_of duration values.now scores.old lengths.old) }
     ensures answer_value { answer_number result.answer ≡ feed_number p s first.old second.old
-        (call_of duration values.now read.now scores.old lengths.old) }
+        (call_of duration values.now scores.old lengths.old) }
     ensures first_after { first.new ≡ feed_first p s first.old second.old
-        (call_of duration values.now read.now scores.old lengths.old) }
+        (call_of duration values.now scores.old lengths.old) }
     ensures second_after { second.new ≡ feed_second p s first.old second.old
-        (call_of duration values.now read.now scores.old lengths.old) }
+        (call_of duration values.now scores.old lengths.old) }
     ensures scores_after { scores.new ≡ feed_scores p s first.old second.old
-        (call_of duration values.now read.now scores.old lengths.old) }
+        (call_of duration values.now scores.old lengths.old) }
     ensures lengths_after { lengths.new ≡ feed_lengths p s first.old second.old
-        (call_of duration values.now read.now scores.old lengths.old) }
+        (call_of duration values.now scores.old lengths.old) }
 {
     if p.high < 128 {
         let mut few: [u32; 128] = [0; 128];
         return feed_with(
-            s, p, first, second, duration, values, read, scores, lengths, &mut few,
+            s, p, first, second, duration, values, scores, lengths, &mut few,
         );
     }
     let mut flags: [u32; 4096] = [0; 4096];
     feed_with(
-        s, p, first, second, duration, values, read, scores, lengths, &mut flags,
+        s, p, first, second, duration, values, scores, lengths, &mut flags,
     )
 }

@@ -4,7 +4,6 @@ ghost use Rattle.std.specs.Prelude.{◌≡◌, true, not, cond, ◌&&◌, ◌||�
 ghost use Rattle.std.proofs.Math.Option.{none};
 ghost use Rattle.pattern.specs.Slots.{all};
 ghost use Rattle.pattern.specs.Sound.{is_null, sound_of};
-ghost use Rattle.record.specs.Reading.{is_set};
 ghost use Rattle.record.specs.Record.{value_in_range};
 ghost use Rattle.cells.specs.Layout.{cells_in, Laid};
 ghost use Rattle.flags.specs.Flags.{RowFlagged, Flagged};
@@ -18,7 +17,7 @@ use cells::{Layout, layout_of};
 use flags::with_bit;
 use monitor::{Answer, State};
 use pattern::{Counted, Pattern, Refusal, cells};
-use record::rules::{all_in_range, in_range, read_sound};
+use record::rules::{all_in_range, in_range};
 use table_blocks::occupied;
 use weighting::MARK;
 
@@ -43,42 +42,21 @@ fn last_fine(last: [i32; 8], channels: u8) -> bool
     ok
 }
 
-// Whether all channels from the first one on count as read.
-fn read_from(read: [u8; 8], first: u8) -> bool
-    ensures { result ≡ all is_set (drop first read) }
-{
-    let mut ok = true;
-    let mut i = first as usize;
-    while i < 8 {
-        ok = ok & (read[i] != 0);
-        i += 1;
-    }
-    ok
-}
-
 // Before the first piece no channel is in use yet.
 pub fn state_sound(p: Pattern, s: State) -> bool
     ensures { result ≡ state_sound p s }
 {
     let last = s.last;
-    let read = s.read;
-    (s.ticks <= 2147483647)
-        & last_fine(last, p.channels)
-        & (!(s.ticks == 0) | last_fine(last, 0))
-        & read_sound(&last, &read)
-        & read_from(read, p.channels)
-        & (!(s.ticks == 0) | read_from(read, 0))
+    (s.ticks <= 2147483647) & last_fine(last, p.channels) & (!(s.ticks == 0) | last_fine(last, 0))
 }
 
-// "duration 0 or over 65,535, a wrong count of values, a value out of range"; another count of flags, a value other than 0 in a
-// channel not read
-pub fn piece_broken(p: Pattern, duration: u32, values: &[i32], read: &[u8]) -> bool
-    ensures { result ≡ piece_broken p duration values.now read.now }
+// "duration 0 or over 65,535, a wrong count of values, a value out of range"
+pub fn piece_broken(p: Pattern, duration: u32, values: &[i32]) -> bool
+    ensures { result ≡ piece_broken p duration values.now }
 {
     !(((1 <= duration) & (duration <= 65535))
         & (values.len() == p.channels as usize)
-        & all_in_range(values)
-        & read_sound(values, read))
+        & all_in_range(values))
 }
 
 // "the mark" or "within ±32,760,000,000"
@@ -222,15 +200,14 @@ pub fn feed_refusal(
     second: usize,
     duration: u32,
     values: &[i32],
-    read: &[u8],
     scores: usize,
     lengths: usize,
     flags: &mut [u32],
 ) -> Answer
     requires { sound_of p ≡ true → p.high < length flags.old }
     ensures value { result ≡ answer_of
-        (feed_cause p s first.now second duration values.now read.now scores lengths) }
-    ensures flagged { feed_cause p s first.now second duration values.now read.now scores lengths ≡ none
+        (feed_cause p s first.now second duration values.now scores lengths) }
+    ensures flagged { feed_cause p s first.now second duration values.now scores lengths ≡ none
         → Flagged (layout p) first.now flags.new }
 {
     match cells(p) {
@@ -241,7 +218,7 @@ pub fn feed_refusal(
             if too_short(first.len(), second, needed) {
                 return Answer::Refused(Refusal::TableTooShort);
             }
-            if piece_broken(p, duration, values, read) {
+            if piece_broken(p, duration, values) {
                 return Answer::Refused(Refusal::BrokenRecord);
             }
             if 2147483647 < s.ticks as u64 + duration as u64 {

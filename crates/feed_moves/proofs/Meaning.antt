@@ -15,7 +15,7 @@ use Rattle.weighting.specs.declared.Weighing.{Weighing}
 use Rattle.weighting.specs.declared.Weighing.TheVariants.{Margin, Sum}
 use Rattle.weighting.specs.Weightings.{weighting_of}
 use Rattle.weighting.specs.Cell.{mark, held_in}
-use Rattle.weighting.proofs.Cell.{held_in-other, held_in-mark}
+use Rattle.weighting.proofs.Cell.{held_in-other}
 use Rattle.pattern.specs.declared.Pattern.{Pattern}
 use Rattle.pattern.specs.declared.Place.{Place}
 use Rattle.pattern.specs.declared.Edge.{Edge}
@@ -24,10 +24,9 @@ use Rattle.pattern.specs.Sound.{no_place, sound_of}
 use Rattle.pattern.specs.InUse.{place_at}
 use Rattle.pattern.specs.Clocks.{Clocks}
 use Rattle.pattern.specs.Cells.{cells_needed}
+use Rattle.pattern.specs.Distance.{Sample}
 use Rattle.pattern.proofs.SoundLaws.{parts}
-use Rattle.record.specs.Reading.{Sample, values_of}
 use Rattle.record.specs.Record.{value_in_range}
-use Rattle.record.specs.Stay.{can_stay}
 use Rattle.walks.specs.Automaton.{State as Place'}
 use Rattle.walks.specs.Tables.{Table, next}
 use Rattle.walks.proofs.Cut.{only-cells}
@@ -57,7 +56,7 @@ use Rattle.monitor.proofs.Numbers.{made_in, made-only}
 use Rattle.monitor.proofs.CellLaws.{laid, cells_are, at-index, celled_at, is_a_cell}
 use Rattle.monitor.proofs.Written.{fine-at}
 use Rattle.monitor.proofs.Sizes.{GainSized, gain-in_sized}
-use Rattle.feed_ticks.specs.Ticks.{kind_flag, kind_flags, gain_or, gains_of, view_in, Ground, ground_of, view_at, table_to, scores_to, lengths_to, report_in, Telling}
+use Rattle.feed_ticks.specs.Ticks.{kind_flag, kind_flags, gains_of, view_in, Ground, ground_of, view_at, table_to, scores_to, lengths_to, report_in, Telling}
 use Rattle.feed_moves.proofs.Lists.{same_default, is-written}
 
 -- ---- a report of length 0 is zeros
@@ -143,7 +142,7 @@ module _ (p : Pattern) (sound : sound_of p ≡ true) where
 
   -- ---- the view of a tick
 
-  module _ (vs : Sample) (fine : all value_in_range (values_of vs) ≡ true) (last : Sample) where
+  module _ (vs : Sample) (fine : all value_in_range vs ≡ true) (last : Sample) where
     gain-low : (f : Bool) (k : ℕ) → nat_abs (gain_in p.weighing (place_at p k) last vs f) ≤ 8000000
     gain-low f k = by p.weighing _ (gain-in_sized p sound last vs fine f k)
       where
@@ -151,36 +150,23 @@ module _ (p : Pattern) (sound : sound_of p ≡ true) where
         by Margin z h = omega arith
         by Sum z h = h
 
-    gain-at : (f : Bool) (k : ℕ) → k < p.placecount → gain_at (gains_of p last vs f) k ≡ gain_or p.weighing (place_at p k) last vs f
+    gain-at : (f : Bool) (k : ℕ) → k < p.placecount → gain_at (gains_of p last vs f) k ≡ gain_in p.weighing (place_at p k) last vs f
     gain-at f k h =
-        let made : Place → ℤ = λ l. gain_or p.weighing l last vs f in
+        let made : Place → ℤ = λ l. gain_in p.weighing l last vs f in
         let long : k < length (map made p.places) = let e = length-map p.places made in let l = places-long k h in omega arith in
         same_default (map made p.places) k (pos 0) (made no_place) long ∙ get_or-map made p.places k no_place
-
-    -- the mark, or not too large
-    gain-fits : (f : Bool) (k : ℕ) → (gain_or p.weighing (place_at p k) last vs f ≡ mark) ⊎ (nat_abs (gain_or p.weighing (place_at p k) last vs f) ≤ 8000000)
-    gain-fits f k = by (can_stay (place_at p k) vs)
-      where
-        by : (t : Bool) → (cond t (gain_in p.weighing (place_at p k) last vs f) mark ≡ mark) ⊎ (nat_abs (cond t (gain_in p.weighing (place_at p k) last vs f) mark) ≤ 8000000)
-        by true = inr (gain-low f k)
-        by false = inl refl
 
     pub view_known : Known (layout p) (view_in p last vs) p.edges p.edgecount
     view_known =
         known_pattern p sound p.high (let s = (parts p sound).short_high in omega arith) (view_in p last vs)
-        (λ k h. rw (gain-at true k h) (gain-fits true k))
-        (λ k h. rw (gain-at false k h) (gain-fits false k))
+        (λ k h. inr (rw (gain-at true k h) (gain-low true k)))
+        (λ k h. inr (rw (gain-at false k h) (gain-low false k)))
 
-    no_mark_lem : (z : ℤ) → nat_abs z ≤ 8000000 → z ≡ mark → ⊥
-    no_mark_lem z h e = let l : nat_abs mark ≤ 8000000 = subst (λ (y : ℤ). nat_abs y ≤ 8000000) e h in omega arith
+    no_mark : (z : ℤ) → nat_abs z ≤ 8000000 → z ≡ mark → ⊥
+    no_mark z h e = let l : nat_abs mark ≤ 8000000 = subst (λ (y : ℤ). nat_abs y ≤ 8000000) e h in omega arith
 
     seen_at : (f : Bool) (k : ℕ) → k < p.placecount → tick_view p last vs f k ≡ held_in (gain_at (gains_of p last vs f) k)
-    seen_at f k h = sym (ap held_in (gain-at f k h) ∙ by (can_stay (place_at p k) vs))
-      where
-        -- a place that cannot be stayed in has the mark, which is read as none
-        by : (t : Bool) → held_in (cond t (gain_in p.weighing (place_at p k) last vs f) mark) ≡ cond t (some (gain_in p.weighing (place_at p k) last vs f)) none
-        by true = held_in-other (gain_in p.weighing (place_at p k) last vs f) (no_mark_lem (gain_in p.weighing (place_at p k) last vs f) (gain-low f k))
-        by false = held_in-mark
+    seen_at f k h = sym (ap held_in (gain-at f k h) ∙ held_in-other _ (no_mark _ (gain-low f k)))
 
     pub view_seen : Viewed (layout p) (view_in p last vs) (tick_view p last vs)
     unfolding layout_of
@@ -189,7 +175,7 @@ module _ (p : Pattern) (sound : sound_of p ≡ true) where
 
   -- ---- the ticks of a piece
 
-  module _ (vs : Sample) (fine : all value_in_range (values_of vs) ≡ true) (last : Sample) (t : List ℤ) (long : cells_needed p ≤ length t) (whole : Whole t (layout p)) where
+  module _ (vs : Sample) (fine : all value_in_range vs ≡ true) (last : Sample) (t : List ℤ) (long : cells_needed p ≤ length t) (whole : Whole t (layout p)) where
     -- the table after i ticks, and that it can be moved on
     abbrev to : ℕ → List ℤ
     to i = table_to ground (view_in p last vs) (view_in p vs vs) t i

@@ -13,7 +13,7 @@ use lib.IntN.{ℤ}
 use Rattle.pattern.specs.declared.Pattern.{Pattern}
 use Rattle.pattern.specs.Sound.{sound_of}
 use Rattle.pattern.specs.Clocks.{Clocks}
-use Rattle.record.specs.Reading.{Sample}
+use Rattle.pattern.specs.Distance.{Sample}
 use Rattle.walks.specs.Tables.{Table}
 use Rattle.monitor.specs.Cells.{up_to, held_by, written}
 use Rattle.monitor.specs.Tick.{ticks_later, report_of}

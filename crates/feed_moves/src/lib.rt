@@ -1,10 +1,9 @@
 // What an opening and a feed do to the tables, the reports and the state where they are not refused.
-ghost use Rattle.std.specs.Prelude.{◌≡◌, true, false, ◌-◌, ◌≤◌, ◌<◌, List, ◌++◌, map, length, take, drop, replicate, ℤ};
+ghost use Rattle.std.specs.Prelude.{◌≡◌, true, false, ◌≤◌, ◌<◌, List, ◌++◌, length, take, drop, ℤ};
 ghost use Rattle.std.proofs.Math.Option.{none};
 ghost use Rattle.pattern.specs.Sound.{sound_of};
 ghost use Rattle.pattern.specs.Cells.{cells_needed};
 ghost use Rattle.pattern.specs.Slots.{all};
-ghost use Rattle.record.specs.Reading.{readings, read_sound};
 ghost use Rattle.record.specs.Record.{value_in_range};
 ghost use Rattle.flags.specs.Flags.{Flagged};
 ghost use Rattle.monitor.specs.Cells.{layout, written};
@@ -12,7 +11,7 @@ ghost use Rattle.monitor.specs.Tick.{open_table};
 ghost use Rattle.monitor.specs.State.{last_sample, piece_later};
 ghost use Rattle.monitor.specs.Open.{marks};
 ghost use Rattle.monitor.specs.Feed.{cell_fine, feed_cause, table_after};
-ghost use Rattle.feed_moves.specs.Piece.{table_in, scores_in, lengths_in, kept_flag};
+ghost use Rattle.feed_moves.specs.Piece.{table_in, scores_in, lengths_in};
 
 use cells::{Layout, layout_of};
 use feed_ticks::{kind_flags, repeat_last, tell_all, view_in};
@@ -71,60 +70,33 @@ fn last_after(last: [i32; 8], values: &[i32]) -> [i32; 8]
     kept
 }
 
-fn kept_flag(flag: u8) -> u8
-    ensures { result ≡ kept_flag flag }
-{
-    if flag == 0 { 0 } else { 1 }
-}
-
-// The piece's flags, as the state keeps them. Behind them all channels count as read.
-fn read_after(read: &[u8]) -> [u8; 8]
-    requires { length read.now ≤ 8 }
-    ensures { result ≡ map kept_flag read.now ++ replicate (8 - length read.now) 1 }
-{
-    let mut kept = [1u8; 8];
-    let mut i: usize = 0;
-    while i < read.len() {
-        let flag = kept_flag(read[i]);
-        kept[i] = flag;
-        i += 1;
-    }
-    kept
-}
-
 // The ticks of a piece, each with its report. All its ticks but the first are alike, so that after high + 1 ticks the table
 // stands still: the rest of the reports is the last one again.
 fn tell_piece(
     p: Pattern,
     l: Layout,
     last: &[i32],
-    known: &[u8],
     duration: u32,
     values: &[i32],
-    read: &[u8],
     first: &mut [i64],
     flags: &mut [u32],
     scores: &mut [i64],
     lengths: &mut [u32],
 )
     requires { (sound_of p ≡ true) × (l ≡ layout p) × (all value_in_range values.now ≡ true)
-        × (read_sound last.now known.now ≡ true) × (read_sound values.now read.now ≡ true)
         × (cells_needed p ≤ length first.old) × (all cell_fine (take (cells_needed p) first.old) ≡ true)
         × (duration ≤ length scores.old) × (duration ≤ length lengths.old) × (Flagged (layout p) first.old flags.old) }
     ensures first_after { first.new
-        ≡ written p (table_in p (readings last.now known.now)
-        (readings values.now read.now) first.old duration) first.old }
+        ≡ written p (table_in p last.now values.now first.old duration) first.old }
     ensures scores_after { scores.new
-        ≡ scores_in p (readings last.now known.now)
-        (readings values.now read.now) first.old duration scores.old }
+        ≡ scores_in p last.now values.now first.old duration scores.old }
     ensures lengths_after { lengths.new
-        ≡ lengths_in p (readings last.now known.now)
-        (readings values.now read.now) first.old duration lengths.old }
+        ≡ lengths_in p last.now values.now first.old duration lengths.old }
     ensures flagged { Flagged (layout p) first.new flags.new }
 {
     let w = p.weighing;
-    let v = view_in(p, last, known, values, read);
-    let u = view_in(p, values, read, values, read);
+    let v = view_in(p, last, values);
+    let u = view_in(p, values, values);
     let edges = p.edges;
     let starts = kind_flags(false, p);
     let ends = kind_flags(true, p);
@@ -147,43 +119,37 @@ pub fn feed_piece(
     flags: &mut [u32],
     duration: u32,
     values: &[i32],
-    read: &[u8],
     scores: &mut [i64],
     lengths: &mut [u32],
 ) -> State
-    requires { (feed_cause p s first.old (length first.old) duration values.now read.now
+    requires { (feed_cause p s first.old (length first.old) duration values.now
         (length scores.old) (length lengths.old) ≡ none)
         × (l ≡ layout p) × (Flagged (layout p) first.old flags.old) }
-    ensures value { result ≡ piece_later p s duration (readings values.now read.now) }
+    ensures value { result ≡ piece_later p s duration values.now }
     ensures first_after { first.new
-        ≡ written p (table_after p s first.old (readings values.now read.now) duration) first.old }
-    ensures scores_after { scores.new ≡ scores_in p (last_sample p s) (readings values.now read.now)
+        ≡ written p (table_after p s first.old values.now duration) first.old }
+    ensures scores_after { scores.new ≡ scores_in p (last_sample p s) values.now
         first.old duration scores.old }
-    ensures lengths_after { lengths.new ≡ lengths_in p (last_sample p s) (readings values.now read.now)
+    ensures lengths_after { lengths.new ≡ lengths_in p (last_sample p s) values.now
         first.old duration lengths.old }
     ensures flagged { Flagged (layout p) first.new flags.new }
 {
     let last = s.last;
-    let known = s.read;
     let n = p.channels as usize;
     tell_piece(
         p,
         l,
         &last[..n],
-        &known[..n],
         duration,
         values,
-        read,
         first,
         flags,
         scores,
         lengths,
     );
     let after = last_after(last, values);
-    let seen = read_after(read);
     State {
         ticks: s.ticks + duration,
         last: after,
-        read: seen,
     }
 }

@@ -2,14 +2,11 @@
 -- the crate feed (proofs/Meaning).
 use Rattle.std.specs.Prelude.{ℕ, zero, suc, ◌+◌, ◌≤◌, List, ◌++◌, map, Bool, true, false, cond, drop, set, ℤ}
 use Rattle.weighting.specs.declared.Weighing.{Weighing}
-use Rattle.weighting.specs.Cell.{mark}
 use Rattle.pattern.specs.declared.Kind.{Kind}
-use Rattle.pattern.specs.declared.Place.{Place}
 use Rattle.pattern.specs.declared.Edge.{Edge}
 use Rattle.pattern.specs.declared.Pattern.{Pattern}
 use Rattle.pattern.specs.Kinds.{is_start, is_end}
-use Rattle.record.specs.Reading.{Sample}
-use Rattle.record.specs.Stay.{can_stay}
+use Rattle.pattern.specs.Distance.{Sample}
 use Rattle.book.specs.View.{gain_in}
 use Rattle.cells.specs.declared.Layout.{Layout}
 use Rattle.table.specs.declared.View.{View}
@@ -26,13 +23,9 @@ kind_flag ending k = cond ending (is_end k) (is_start k)
 abbrev pub kind_flags : (ending : Bool) → Pattern → List Bool
 kind_flags ending p = map (λ l. kind_flag ending l.kind) p.places
 
--- What a tick gains in a place; the mark where the place cannot be stayed in.
-abbrev pub gain_or : Weighing → Place → (last now : Sample) → (entered : Bool) → ℤ
-gain_or w l last now entered = cond (can_stay l now) (gain_in w l last now entered) mark
-
--- The same in each place.
+-- What a tick gains in each place.
 abbrev pub gains_of : Pattern → (last now : Sample) → (entered : Bool) → List ℤ
-gains_of p last now entered = map (λ l. gain_or p.weighing l last now entered) p.places
+gains_of p last now entered = map (λ l. gain_in p.weighing l last now entered) p.places
 
 abbrev pub view_in : Pattern → (last now : Sample) → View
 view_in p last now = record { entered = gains_of p last now true; staying = gains_of p last now false }

@@ -1,24 +1,23 @@
 // The ticks of a piece over the cells: what a tick gains in each place, in the first tick and in later ones; each tick told;
 // and a last report told again.
-ghost use Rattle.std.specs.Prelude.{◌≡◌, true, not, ◌+◌, ◌-◌, ◌≤◌, ◌<◌, length, get_or, set, pos};
-ghost use Rattle.record.specs.Reading.{readings, read_sound};
+ghost use Rattle.std.specs.Prelude.{◌≡◌, not, ◌+◌, ◌-◌, ◌≤◌, ◌<◌, length, get_or, set, pos};
 ghost use Rattle.record.specs.Joined.{agrees};
-ghost use Rattle.book.specs.View.{counts};
+ghost use Rattle.book.specs.View.{counts, gain_in};
 ghost use Rattle.table.specs.Moves.{tick_of};
 ghost use Rattle.table.specs.Reports.{told_of};
 ghost use Rattle.flags.specs.Flags.{Flagged};
 ghost use Rattle.table.specs.Asks.{Ticking, Routed};
-ghost use Rattle.feed_ticks.specs.Ticks.{kind_flag, kind_flags, gain_or, view_in, view_at, ground_of};
+ghost use Rattle.feed_ticks.specs.Ticks.{kind_flag, kind_flags, view_in, view_at, ground_of};
 ghost use Rattle.feed_ticks.specs.Ticks.{Telling, table_to, scores_to, lengths_to, repeated};
 
 use cells::Layout;
 use pattern::distance::place_worth;
 use pattern::{Edge, Kind, Pattern, Place, is_end, is_start};
-use record::samples::{agree_in, can_stay};
+use record::samples::agree_in;
 use steps::steps_of;
 use table::{View, links_of};
 use table_tick::tick;
-use weighting::{MARK, Weighing, unit};
+use weighting::{Weighing, unit};
 
 fn kind_flag(ending: bool, k: Kind) -> bool
     ensures { result ≡ kind_flag ending k }
@@ -42,18 +41,8 @@ pub fn kind_flags(ending: bool, p: Pattern) -> [bool; 16]
 }
 
 // Does a tick count in a place: in margin always, in sum if the place was just entered or the tick is a new observation there.
-fn tick_counts(
-    w: Weighing,
-    l: Place,
-    last: &[i32],
-    known: &[u8],
-    values: &[i32],
-    read: &[u8],
-    entered: bool,
-) -> bool
-    requires { (read_sound last.now known.now ≡ true) × (read_sound values.now read.now ≡ true) }
-    ensures { result ≡ counts w (not (agrees l (readings last.now known.now)
-        (readings values.now read.now))) entered }
+fn tick_counts(w: Weighing, l: Place, last: &[i32], values: &[i32], entered: bool) -> bool
+    ensures { result ≡ counts w (not (agrees l last.now values.now)) entered }
 {
     match w {
         Weighing::Margin => true,
@@ -61,31 +50,17 @@ fn tick_counts(
             if entered {
                 true
             } else {
-                !agree_in(l, last, known, values, read)
+                !agree_in(l, last, values)
             }
         }
     }
 }
 
-// What a tick gains in a place, by the samples of the tick before and its own. Where the place cannot be stayed in it is the mark,
-// and no cell of the place is moved.
-fn gain(
-    w: Weighing,
-    l: Place,
-    last: &[i32],
-    known: &[u8],
-    values: &[i32],
-    read: &[u8],
-    entered: bool,
-) -> i64
-    requires { (read_sound last.now known.now ≡ true) × (read_sound values.now read.now ≡ true) }
-    ensures { result ≡ gain_or w l (readings last.now known.now)
-        (readings values.now read.now) entered }
+// What a tick gains in a place, by the values of the tick before and its own.
+fn gain(w: Weighing, l: Place, last: &[i32], values: &[i32], entered: bool) -> i64
+    ensures { result ≡ gain_in w l last.now values.now entered }
 {
-    if !can_stay(l, values, read) {
-        return MARK;
-    }
-    if tick_counts(w, l, last, known, values, read, entered) {
+    if tick_counts(w, l, last, values, entered) {
         place_worth(w, l, values)
     } else {
         unit(w)
@@ -93,10 +68,8 @@ fn gain(
 }
 
 // What a tick gains in each place: in those just entered, and in those stayed in.
-pub fn view_in(p: Pattern, last: &[i32], known: &[u8], values: &[i32], read: &[u8]) -> View
-    requires { (read_sound last.now known.now ≡ true) × (read_sound values.now read.now ≡ true) }
-    ensures { result ≡ view_in p (readings last.now known.now)
-        (readings values.now read.now) }
+pub fn view_in(p: Pattern, last: &[i32], values: &[i32]) -> View
+    ensures { result ≡ view_in p last.now values.now }
 {
     let w = p.weighing;
     let mut entered = [0i64; 16];
@@ -104,8 +77,8 @@ pub fn view_in(p: Pattern, last: &[i32], known: &[u8], values: &[i32], read: &[u
     let mut i: usize = 0;
     while i < 16 {
         let l = p.places[i];
-        entered[i] = gain(w, l, last, known, values, read, true);
-        staying[i] = gain(w, l, last, known, values, read, false);
+        entered[i] = gain(w, l, last, values, true);
+        staying[i] = gain(w, l, last, values, false);
         i += 1;
     }
     View {

@@ -9,10 +9,9 @@ use lib.ListN.{length}
 use lib.IntN.{ℤ, pos}
 use Rattle.pattern.specs.declared.Refusal.{Refusal}
 use Rattle.pattern_text.specs.Text.{accepted, refused}
-use Rattle.record.specs.Reading.{readings}
-use Rattle.record.specs.Record.{lent_sound, book_of}
-use Rattle.record.specs.Worth.{price_of}
+use Rattle.record.specs.Record.{record_sound, book_of}
 use Rattle.record.specs.Run.{steps_of}
+use Rattle.record.specs.Worth.{price_of}
 use Rattle.price.specs.declared.Priced.{Priced}
 use Rattle.price.specs.declared.Priced.TheVariants as priced
 use Rattle.price.specs.Price.{steps_fit, priced_as, scored_as, priced_of}
@@ -38,9 +37,9 @@ price-by true false k = refl
 price-by false b k = refl
 
 pub price-numbers : PriceNumbers
-price-numbers x p e ds vs fs begin es ss =
-    rw (e, price_refusal (priced_of p ds vs fs begin es ss), priced_numbers_lem p ds vs fs begin es ss, read-sound x p e)
-    (price-by (lent_sound p.channels ds vs fs) (steps_fit ds begin es ss) (scored_as (price_of p (book_of p.channels ds (readings vs fs)) begin (steps_of es ss))))
+price-numbers x p e ds vs begin es ss =
+    rw (e, price_refusal (priced_of p ds vs begin es ss), priced_numbers_lem p ds vs begin es ss, read-sound x p e)
+    (price-by (record_sound p.channels ds vs) (steps_fit ds begin es ss) (scored_as (price_of p (book_of p.channels ds vs) begin (steps_of es ss))))
 
 best_refusal_lem : (a : Found) → (best_told a).refusal ≡ (found_as a).0
 best_refusal_lem (found.Run end begin score) = refl
@@ -53,9 +52,9 @@ best_by true false k = refl
 best_by false b k = refl
 
 pub record_numbers : RecordNumbers
-record_numbers x p e ds vs fs t u =
-    rw (e, best_refusal_lem (best_of p ds vs fs t u), best_numbers_lem p ds vs fs t u, read-sound x p e)
-    (best_by (lent_sound p.channels ds vs fs) (table_too_short p (length t) (length u)) (chosen_as (chosen_of p (book_of p.channels ds (readings vs fs)))))
+record_numbers x p e ds vs t u =
+    rw (e, best_refusal_lem (best_of p ds vs t u), best_numbers_lem p ds vs t u, read-sound x p e)
+    (best_by (record_sound p.channels ds vs) (table_too_short p (length t) (length u)) (chosen_as (chosen_of p (book_of p.channels ds vs))))
 
 -- ---- a refusal alters nothing
 
@@ -66,5 +65,5 @@ best_still none none t u t' u' h = absurd (omega arith)
 best_still none (some f) t u t' u' h = absurd (omega arith)
 
 pub best_refused_alters_nothing : BestRefusedAltersNothing
-best_refused_alters_nothing (refused r) ds vs fs t u h = (refl, refl)
-best_refused_alters_nothing (accepted p) ds vs fs t u h = best_still (best_refusal p ds vs fs (length t) (length u)) (chosen_of p (book_of p.channels ds (readings vs fs))) t u _ _ h
+best_refused_alters_nothing (refused r) ds vs t u h = (refl, refl)
+best_refused_alters_nothing (accepted p) ds vs t u h = best_still (best_refusal p ds vs (length t) (length u)) (chosen_of p (book_of p.channels ds vs)) t u _ _ h

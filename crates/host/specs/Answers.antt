@@ -13,20 +13,20 @@ use Rattle.host_told.specs.Told.{price_told, best_told}
 
 -- ---- pricing
 
-abbrev pub run_price : Answer → (durations : List ℕ) → (values : List ℤ) → (flags : List ℕ) → (begin : ℕ) → (edges stays : List ℕ) → RunPrice
-run_price (refused r) ds vs fs begin es ss = price_told (priced.Refused r)
-run_price (accepted p) ds vs fs begin es ss = price_told (priced_of p ds vs fs begin es ss)
+abbrev pub run_price : Answer → (durations : List ℕ) → (values : List ℤ) → (begin : ℕ) → (edges stays : List ℕ) → RunPrice
+run_price (refused r) ds vs begin es ss = price_told (priced.Refused r)
+run_price (accepted p) ds vs begin es ss = price_told (priced_of p ds vs begin es ss)
 
 -- ---- the best of a record
 
-abbrev pub record_best : Answer → (durations : List ℕ) → (values : List ℤ) → (flags : List ℕ) → (first second : List ℤ) → RecordBest
-record_best (refused r) ds vs fs t u = best_told (found.Refused r)
-record_best (accepted p) ds vs fs t u = best_told (best_of p ds vs fs t u)
+abbrev pub record_best : Answer → (durations : List ℕ) → (values : List ℤ) → (first second : List ℤ) → RecordBest
+record_best (refused r) ds vs t u = best_told (found.Refused r)
+record_best (accepted p) ds vs t u = best_told (best_of p ds vs t u)
 
-abbrev pub record_first : Answer → (durations : List ℕ) → (values : List ℤ) → (flags : List ℕ) → (first second : List ℤ) → List ℤ
-record_first (refused r) ds vs fs t u = t
-record_first (accepted p) ds vs fs t u = best_first p ds vs fs t u
+abbrev pub record_first : Answer → (durations : List ℕ) → (values : List ℤ) → (first second : List ℤ) → List ℤ
+record_first (refused r) ds vs t u = t
+record_first (accepted p) ds vs t u = best_first p ds vs t u
 
-abbrev pub record_second : Answer → (durations : List ℕ) → (values : List ℤ) → (flags : List ℕ) → (first second : List ℤ) → List ℤ
-record_second (refused r) ds vs fs t u = u
-record_second (accepted p) ds vs fs t u = best_second p ds vs fs t u
+abbrev pub record_second : Answer → (durations : List ℕ) → (values : List ℤ) → (first second : List ℤ) → List ℤ
+record_second (refused r) ds vs t u = u
+record_second (accepted p) ds vs t u = best_second p ds vs t u

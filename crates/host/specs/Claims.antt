@@ -3,10 +3,9 @@ use Rattle.std.specs.Prelude.{ℕ, ◌≤◌, ◌≡◌, List, not, cond, length
 use Rattle.pattern.specs.declared.Pattern.{Pattern}
 use Rattle.pattern_text.specs.Bytes.{Bytes}
 use Rattle.pattern_text.specs.Text.{Answer, accepted, read_of}
-use Rattle.record.specs.Reading.{readings}
-use Rattle.record.specs.Record.{lent_sound, book_of}
-use Rattle.record.specs.Worth.{price_of}
+use Rattle.record.specs.Record.{record_sound, book_of}
 use Rattle.record.specs.Run.{steps_of}
+use Rattle.record.specs.Worth.{price_of}
 use Rattle.price.specs.Price.{steps_fit, scored_as}
 use Rattle.monitor.specs.Open.{table_too_short}
 use Rattle.host.specs.Answers.{run_price, record_best, record_first, record_second}
@@ -17,22 +16,22 @@ use Rattle.host.specs.Answers.{run_price, record_best, record_first, record_seco
 -- Pricing: 8, 9, 10.
 abbrev pub PriceNumbers : Type 0
 PriceNumbers =
-    (x : Bytes) (p : Pattern) → read_of x ≡ accepted p → (ds : List ℕ) (vs : List ℤ) (fs : List ℕ) (begin : ℕ) (es ss : List ℕ)
-    → (run_price (read_of x) ds vs fs begin es ss).refusal
-    ≡ cond (lent_sound p.channels ds vs fs)
-    (cond (steps_fit ds begin es ss) (scored_as (price_of p (book_of p.channels ds (readings vs fs)) begin (steps_of es ss))).0 9)
+    (x : Bytes) (p : Pattern) → read_of x ≡ accepted p → (ds : List ℕ) (vs : List ℤ) (begin : ℕ) (es ss : List ℕ)
+    → (run_price (read_of x) ds vs begin es ss).refusal
+    ≡ cond (record_sound p.channels ds vs)
+    (cond (steps_fit ds begin es ss) (scored_as (price_of p (book_of p.channels ds vs) begin (steps_of es ss))).0 9)
     8
 
 -- The best of a record: 8, 11.
 abbrev pub RecordNumbers : Type 0
 RecordNumbers =
-    (x : Bytes) (p : Pattern) → read_of x ≡ accepted p → (ds : List ℕ) (vs : List ℤ) (fs : List ℕ) (t u : List ℤ)
-    → (record_best (read_of x) ds vs fs t u).refusal
-    ≡ cond (not (lent_sound p.channels ds vs fs)) 8 (cond (table_too_short p (length t) (length u)) 11 0)
+    (x : Bytes) (p : Pattern) → read_of x ≡ accepted p → (ds : List ℕ) (vs t u : List ℤ)
+    → (record_best (read_of x) ds vs t u).refusal
+    ≡ cond (not (record_sound p.channels ds vs)) 8 (cond (table_too_short p (length t) (length u)) 11 0)
 
 -- ---- "A refusal .. alters no lent memory."
 
 abbrev pub BestRefusedAltersNothing : Type 0
 BestRefusedAltersNothing =
-    (a : Answer) (ds : List ℕ) (vs : List ℤ) (fs : List ℕ) (t u : List ℤ) → 1 ≤ (record_best a ds vs fs t u).refusal
-    → (record_first a ds vs fs t u ≡ t) × (record_second a ds vs fs t u ≡ u)
+    (a : Answer) (ds : List ℕ) (vs t u : List ℤ) → 1 ≤ (record_best a ds vs t u).refusal
+    → (record_first a ds vs t u ≡ t) × (record_second a ds vs t u ≡ u)

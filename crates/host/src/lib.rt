@@ -36,7 +36,7 @@ pub extern "C" fn pattern_cells(text: &[u8]) -> u64
     counted_cells(pattern::cells(p))
 }
 
-// Opening: 1 to 5, 11, then 12 for a state's slice of fewer than 17 entries.
+// Opening: 1 to 5, 11, then 12 for a state's slice of fewer than 9 entries.
 #[unsafe(no_mangle)]
 pub extern "C" fn monitor_open(
     text: &[u8],
@@ -71,36 +71,33 @@ pub extern "C" fn monitor_feed(
     second: &mut [i64],
     duration: u32,
     values: &[i32],
-    read: &[u8],
     scores: &mut [i64],
     lengths: &mut [u32],
 ) -> u32
     ensures value { result ≡ fed_number (read_of text.now) state.old first.old second.old
-        (call_of duration values.now read.now scores.old lengths.old) }
+        (call_of duration values.now scores.old lengths.old) }
     ensures state_after { state.new
         ≡ fed_state (read_of text.now) state.old first.old second.old
-        (call_of duration values.now read.now scores.old lengths.old) }
+        (call_of duration values.now scores.old lengths.old) }
     ensures first_after { first.new
         ≡ fed_first (read_of text.now) state.old first.old second.old
-        (call_of duration values.now read.now scores.old lengths.old) }
+        (call_of duration values.now scores.old lengths.old) }
     ensures second_after { second.new
         ≡ fed_second (read_of text.now) state.old first.old second.old
-        (call_of duration values.now read.now scores.old lengths.old) }
+        (call_of duration values.now scores.old lengths.old) }
     ensures scores_after { scores.new
         ≡ fed_scores (read_of text.now) state.old first.old second.old
-        (call_of duration values.now read.now scores.old lengths.old) }
+        (call_of duration values.now scores.old lengths.old) }
     ensures lengths_after { lengths.new
         ≡ fed_lengths (read_of text.now) state.old first.old second.old
-        (call_of duration values.now read.now scores.old lengths.old) }
+        (call_of duration values.now scores.old lengths.old) }
 {
     let reading = pattern_read::read(text);
     let p = reading.pattern;
     let outcome = reading.outcome;
     match outcome {
         Outcome::Accepted => {
-            feed_pattern(
-                p, state, first, second, duration, values, read, scores, lengths,
-            )
+            feed_pattern(p, state, first, second, duration, values, scores, lengths)
         }
         Outcome::Refused(cause) => cause_number(cause),
     }
@@ -112,19 +109,18 @@ pub extern "C" fn run_price(
     text: &[u8],
     durations: &[u32],
     values: &[i32],
-    read: &[u8],
     begin: u32,
     edges: &[u32],
     stays: &[u32],
 ) -> RunPrice
-    ensures { result ≡ run_price (read_of text.now) durations.now values.now
-        read.now begin edges.now stays.now }
+    ensures { result ≡ run_price (read_of text.now) durations.now values.now begin
+        edges.now stays.now }
 {
     let reading = pattern_read::read(text);
     let p = reading.pattern;
     let outcome = reading.outcome;
     match outcome {
-        Outcome::Accepted => price_told(price(p, durations, values, read, begin, edges, stays)),
+        Outcome::Accepted => price_told(price(p, durations, values, begin, edges, stays)),
         Outcome::Refused(cause) => price_told(Priced::Refused(cause)),
     }
 }
@@ -135,22 +131,21 @@ pub extern "C" fn record_best(
     text: &[u8],
     durations: &[u32],
     values: &[i32],
-    read: &[u8],
     first: &mut [i64],
     second: &mut [i64],
 ) -> RecordBest
     ensures value { result ≡ record_best (read_of text.now) durations.now values.now
-        read.now first.old second.old }
+        first.old second.old }
     ensures first_after { first.new ≡ record_first (read_of text.now) durations.now values.now
-        read.now first.old second.old }
+        first.old second.old }
     ensures second_after { second.new ≡ record_second (read_of text.now) durations.now values.now
-        read.now first.old second.old }
+        first.old second.old }
 {
     let reading = pattern_read::read(text);
     let p = reading.pattern;
     let outcome = reading.outcome;
     match outcome {
-        Outcome::Accepted => best_told(best(p, durations, values, read, first, second)),
+        Outcome::Accepted => best_told(best(p, durations, values, first, second)),
         Outcome::Refused(cause) => best_told(Found::Refused(cause)),
     }
 }

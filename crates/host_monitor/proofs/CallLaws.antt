@@ -2,7 +2,7 @@
 use Prim.Native.Nat.{◌≤◌}
 use mathlib.Core.Path.{◌≡◌, sym, ap, ◌∙◌}
 use mathlib.Core.List.{List}
-use mathlib.Core.Option.{Option, none, some}
+use mathlib.Core.Option.{none, some}
 use mathlib.Core.Bool.{true}
 use borrow.Author.Tests.{le-leb}
 use lib.ListN.{length}
@@ -14,23 +14,24 @@ use Rattle.pattern_text.specs.Text.{accepted}
 use Rattle.monitor.specs.declared.State.{State}
 use Rattle.monitor.specs.declared.After.{After}
 use Rattle.monitor.specs.declared.Answer.TheVariants.{Done, Refused}
-use Rattle.monitor.specs.Open.{unless_refused, open_refusal, open_first, open_second}
-use Rattle.monitor.specs.Feed.{Call, feed_refusal, feed_state}
+use Rattle.monitor.specs.Open.{open_refusal, open_first, open_second}
+use Rattle.monitor.specs.Feed.{Call, feed_refusal}
 use Rattle.monitor.proofs.Accepted.{done, refused_for_lem}
 use Rattle.feed.specs.After.{opened_of, fed_of}
 use Rattle.state_slice.specs.Slice.{holds_state, state_in, with_state}
+use Rattle.state_slice.proofs.Slices.{read-is-written}
 use Rattle.host_monitor.specs.Calls.{opened_number, opened_state, opened_first, opened_second, fed_number, fed_state}
 
 -- ---- an opening
 
-module _ (p : Pattern) (l t u : List ℤ) (long : 17 ≤ length l) (s : State) (r : After) (is : r ≡ opened_of p t u s) where
+module _ (p : Pattern) (l t u : List ℤ) (long : 9 ≤ length l) (s : State) (r : After) (is : r ≡ opened_of p t u s) where
   pub open_done : r.answer ≡ Done
       → (0 ≡ opened_number (accepted p) l t u)
       × ((with_state r.state l ≡ opened_state (accepted p) l t u)
       × ((open_first p t u ≡ opened_first (accepted p) l t u) × (open_second p t u ≡ opened_second (accepted p) l t u)))
   open_done a =
       let e : open_refusal p (length t) (length u) ≡ none = done _ (sym a ∙ ap (λ (x : After). x.answer) is) in
-      (rw (le-leb 17 (length l) long, e), (rw (le-leb 17 (length l) long, is, e), (rw (le-leb 17 (length l) long), rw (le-leb 17 (length l) long))))
+      (rw (le-leb 9 (length l) long, e), (rw (le-leb 9 (length l) long, is, e), (rw (le-leb 9 (length l) long), rw (le-leb 9 (length l) long))))
 
   pub open_refused : (q : Refusal) → r.answer ≡ Refused q
       → (number_of q ≡ opened_number (accepted p) l t u)
@@ -38,7 +39,7 @@ module _ (p : Pattern) (l t u : List ℤ) (long : 17 ≤ length l) (s : State) (
       × ((open_first p t u ≡ opened_first (accepted p) l t u) × (open_second p t u ≡ opened_second (accepted p) l t u)))
   open_refused q a =
       let e : open_refusal p (length t) (length u) ≡ some q = refused_for_lem _ _ (sym a ∙ ap (λ (x : After). x.answer) is) in
-      (rw (le-leb 17 (length l) long, e), (rw (le-leb 17 (length l) long, e), (rw (le-leb 17 (length l) long), rw (le-leb 17 (length l) long))))
+      (rw (le-leb 9 (length l) long, e), (rw (le-leb 9 (length l) long, e), (rw (le-leb 9 (length l) long), rw (le-leb 9 (length l) long))))
 
 -- ---- a feed
 
@@ -47,9 +48,9 @@ module _ (p : Pattern) (l t u : List ℤ) (c : Call) (holds : holds_state l ≡ 
     pub feed-done : r.answer ≡ Done → (0 ≡ fed_number (accepted p) l t u c) × (with_state r.state l ≡ fed_state (accepted p) l t u c)
     feed-done a =
         let e : feed_refusal p (state_in l) t u c ≡ none = done _ (sym a ∙ ap (λ (x : After). x.answer) is) in
-        (rw (holds, e), rw (holds) (ap (λ (x : After). with_state x.state l) is ∙ ap (λ (o : Option Refusal). unless_refused o (with_state (feed_state p (state_in l) t u c) l) l) (sym e)))
+        (rw (holds, e), rw (holds, is))
 
     pub feed_refused : (q : Refusal) → r.answer ≡ Refused q → (number_of q ≡ fed_number (accepted p) l t u c) × (l ≡ fed_state (accepted p) l t u c)
     feed_refused q a =
         let e : feed_refusal p (state_in l) t u c ≡ some q = refused_for_lem _ _ (sym a ∙ ap (λ (x : After). x.answer) is) in
-        (rw (holds, e), rw (holds, e))
+        (rw (holds, e), rw (holds, e) (sym (read-is-written l holds)))

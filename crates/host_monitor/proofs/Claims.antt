@@ -15,11 +15,13 @@ use Rattle.pattern.specs.Sound.{sound_of}
 use Rattle.pattern_text.specs.Bytes.{Bytes}
 use Rattle.pattern_text.specs.Text.{accepted, refused, read_of}
 use Rattle.pattern_text.proofs.Theorems.{texts_exact}
+use Rattle.monitor.specs.declared.State.{State}
 use Rattle.monitor.specs.State.{state_sound}
 use Rattle.monitor.specs.Open.{answer_of, answer_number, unless_refused, table_too_short, open_refusal}
 use Rattle.monitor.specs.Feed.{Call, feed_refusal}
 use Rattle.monitor.proofs.Answers.{feed-numbers}
-use Rattle.state_slice.specs.Slice.{holds_state, state_in}
+use Rattle.state_slice.specs.Slice.{holds_state, state_in, with_state}
+use Rattle.state_slice.proofs.Slices.{read-is-written}
 use Rattle.host_monitor.specs.Calls.{number_or}
 use Rattle.host_monitor.specs.Claims.{OpenedNumbers, FedNumbers, OpenRefusedAltersNothing, FeedRefusedAltersNothing}
 
@@ -35,7 +37,7 @@ open_by false n = refl
 
 pub opened_numbers : OpenedNumbers
 unfolding open_refusal
-opened_numbers x p e l t u = rw (e, read-sound x p e) (open_by (table_too_short p (length t) (length u)) (cond (leb 17 (length l)) 0 12))
+opened_numbers x p e l t u = rw (e, read-sound x p e) (open_by (table_too_short p (length t) (length u)) (cond (leb 9 (length l)) 0 12))
 
 feed-by : (h g : Bool) (k : ℕ) → cond h (cond (not g) 12 k) 12 ≡ cond (not (h && g)) 12 k
 feed-by true g k = refl
@@ -54,16 +56,16 @@ open_still false o l t u l' t' u' h = (refl, refl, refl)
 
 pub open_refused_alters_nothing : OpenRefusedAltersNothing
 open_refused_alters_nothing (refused r) l t u h = (refl, refl, refl)
-open_refused_alters_nothing (accepted p) l t u h = open_still (leb 17 (length l)) (open_refusal p (length t) (length u)) l t u _ _ _ h
+open_refused_alters_nothing (accepted p) l t u h = open_still (leb 9 (length l)) (open_refusal p (length t) (length u)) l t u _ _ _ h
 
-module _ (l t u : List ℤ) (c : Call) (l' t' u' ss : List ℤ) (ls : List ℕ) where
-  feed-still : (b : Bool) (o : Option Refusal) → 1 ≤ cond b (answer_number (answer_of o)) 12
-      → (cond b (unless_refused o l' l) l ≡ l) × (cond b (unless_refused o t' t) t ≡ t) × (cond b (unless_refused o u' u) u ≡ u)
+module _ (l t u : List ℤ) (c : Call) (s : State) (t' u' ss : List ℤ) (ls : List ℕ) where
+  feed-still : (b : Bool) → holds_state l ≡ b → (o : Option Refusal) → 1 ≤ cond b (answer_number (answer_of o)) 12
+      → (cond b (with_state (unless_refused o s (state_in l)) l) l ≡ l) × (cond b (unless_refused o t' t) t ≡ t) × (cond b (unless_refused o u' u) u ≡ u)
       × (cond b (unless_refused o ss c.scores) c.scores ≡ c.scores) × (cond b (unless_refused o ls c.lengths) c.lengths ≡ c.lengths)
-  feed-still true none h = absurd (omega arith)
-  feed-still true (some r) h = (refl, refl, refl, refl, refl)
-  feed-still false o h = (refl, refl, refl, refl, refl)
+  feed-still true e none h = absurd (omega arith)
+  feed-still true e (some r) h = (read-is-written l e, refl, refl, refl, refl)
+  feed-still false e o h = (refl, refl, refl, refl, refl)
 
 pub feed_refused_alters_nothing : FeedRefusedAltersNothing
 feed_refused_alters_nothing (refused r) l t u c h = (refl, refl, refl, refl, refl)
-feed_refused_alters_nothing (accepted p) l t u c h = feed-still l t u c _ _ _ _ _ (holds_state l) (feed_refusal p (state_in l) t u c) h
+feed_refused_alters_nothing (accepted p) l t u c h = feed-still l t u c _ _ _ _ _ (holds_state l) refl (feed_refusal p (state_in l) t u c) h

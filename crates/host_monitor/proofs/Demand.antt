@@ -1,12 +1,12 @@
 -- A list of feeds from C is one of the library's, so demand 3 holds of it.
-use Prim.Native.Nat.{ℕ, zero, suc, ◌-◌, ◌≤◌}
+use Prim.Native.Nat.{◌≤◌}
 use native.Mathlib.Omega.{arith}
 use mathlib.Core.Path.{◌≡◌, refl, sym, subst, ◌∙◌}
 use mathlib.Core.List.{List, [], ◌∷◌}
 use mathlib.Core.Option.{Option, none, some}
 use mathlib.Core.Bool.{Bool, true, false, cond}
 use lib.Dec.{leb}
-use lib.ListN.{length, drop, replicate, length-append, length-drop, length-map, length-replicate}
+use lib.ListN.{length, drop, replicate, length-append, length-drop}
 use lib.IntN.{ℤ, pos}
 use Rattle.pattern.specs.declared.Pattern.{Pattern}
 use Rattle.pattern.specs.declared.Refusal.{Refusal}
@@ -17,16 +17,15 @@ use Rattle.pattern.proofs.SoundLaws.{both, parts}
 use Rattle.pattern_text.specs.Bytes.{Bytes}
 use Rattle.pattern_text.specs.Text.{Answer, accepted, read_of}
 use Rattle.pattern_text.proofs.Tools.{all_append}
-use Rattle.record.specs.Reading.{Sample, value_of, values_of, flag_of, flags_of}
 use Rattle.record.specs.Record.{Book, value_in_range}
 use Rattle.record.proofs.ListLaws.{all_drop}
 use Rattle.monitor.specs.declared.State.{State}
 use Rattle.monitor.specs.State.{no_ticks, piece_later}
 use Rattle.monitor.specs.Open.{answer_of, unless_refused, open_refusal, open_first, open_second, open_state}
-use Rattle.monitor.specs.Feed.{Call, sample_of, feed_refusal, feed_state}
+use Rattle.monitor.specs.Feed.{Call, feed_refusal, feed_state}
 use Rattle.monitor.specs.Demand.{book_after, AllRight}
 use Rattle.monitor.proofs.Demand.{demand3}
-use Rattle.monitor.proofs.Accepted.{fed, sample-long, sample-fine}
+use Rattle.monitor.proofs.Accepted.{fed}
 use Rattle.state_slice.specs.Slice.{is_value, holds_state, state_in, with_state}
 use Rattle.state_slice.specs.Claims.{IsState}
 use Rattle.state_slice.proofs.Entries.{in-range-is-value}
@@ -40,38 +39,23 @@ all-values (z ∷ l) e =
     let h = both (value_in_range z) (all value_in_range l) e in
     rw (in-range-is-value z h.0) (all-values l h.1)
 
-flags-low : (x : Sample) → all (λ f. leb f 1) (flags_of x) ≡ true
-flags-low [] = refl
-flags-low (none ∷ x) = flags-low x
-flags-low (some v ∷ x) = flags-low x
-
-ones_low : (n : ℕ) → all (λ f. leb f 1) (replicate n 1) ≡ true
-ones_low zero = refl
-ones_low (suc n) = ones_low n
-
--- a state that a slice can hold is after a feed such a state again
+-- what a feed leaves is a value of the type
 after-is-state : (p : Pattern) (s : State) (t u : List ℤ) (c : Call) → IsState s → IsState (feed_state p s t u c)
 after-is-state p s t u c k = by (feed_refusal p s t u c) refl
   where
-    by : (o : Option Refusal) → feed_refusal p s t u c ≡ o → IsState (unless_refused o (piece_later p s c.duration (sample_of c)) s)
+    by : (o : Option Refusal) → feed_refusal p s t u c ≡ o → IsState (unless_refused o (piece_later p s c.duration c.values) s)
     by (some r) e = k
     by none e =
-        let f = fed p s t (length u) c.duration c.values c.read (length c.scores) (length c.lengths) e in
+        let f = fed p s t (length u) c.duration c.values (length c.scores) (length c.lengths) e in
         let few = (parts p f.sound).few_channels in
         let room = f.room in
-        let x = sample_of c in
-        let n : length x ≡ p.channels = sample-long p c.duration c.values c.read f.piece in
+        let n = f.piece.count in
         let m = k.count in
         let d = length-drop p.channels s.last in
-        let v = length-map x value_of in
-        let g = length-map x flag_of in
-        let o = length-replicate {A = ℕ} (8 - p.channels) 1 in
         record {
           ticks = omega arith;
-          count = length-append (values_of x) (drop p.channels s.last) ∙ omega arith;
-          values = all_append is_value (values_of x) (drop p.channels s.last) (all-values (values_of x) (sample-fine p c.duration c.values c.read f.piece)) (all_drop is_value p.channels s.last k.values);
-          flag_count = length-append (flags_of x) (replicate (8 - p.channels) 1) ∙ omega arith;
-          flags = all_append (λ f. leb f 1) (flags_of x) (replicate (8 - p.channels) 1) (flags-low x) (ones_low (8 - p.channels));
+          count = length-append c.values (drop p.channels s.last) ∙ omega arith;
+          values = all_append is_value c.values (drop p.channels s.last) (all-values c.values f.piece.values) (all_drop is_value p.channels s.last k.values);
         }
 
 module _ (x : Bytes) (p : Pattern) (is : read_of x ≡ accepted p) where
@@ -80,22 +64,13 @@ module _ (x : Bytes) (p : Pattern) (is : read_of x ≡ accepted p) where
       let w = written-is-read (feed_state p (state_in l) t u c) l (after-is-state p (state_in l) t u c (held-is-state l e)) in
       record {
         number = rw (is, e);
-        holds = rw (is, e) (held (feed_refusal p (state_in l) t u c) w.0);
-        state = rw (is, e) (same (feed_refusal p (state_in l) t u c) refl w.1);
+        holds = rw (is, e) w.0;
+        state = rw (is, e) w.1;
         first = rw (is, e);
         second = rw (is, e);
         scores = rw (is, e);
         lengths = rw (is, e);
       }
-    where
-      held : (o : Option Refusal) → holds_state (with_state (feed_state p (state_in l) t u c) l) ≡ true → holds_state (unless_refused o (with_state (feed_state p (state_in l) t u c) l) l) ≡ true
-      held none h = h
-      held (some r) h = e
-
-      same : (o : Option Refusal) → feed_refusal p (state_in l) t u c ≡ o → state_in (with_state (feed_state p (state_in l) t u c) l) ≡ feed_state p (state_in l) t u c
-          → state_in (unless_refused o (with_state (feed_state p (state_in l) t u c) l) l) ≡ feed_state p (state_in l) t u c
-      same none is h = h
-      same (some r) is h = rw is
 
   all_fed : (cs : List Call) (b : Book) (l t u : List ℤ) → holds_state l ≡ true → AllRight p b (state_in l) t u cs → AllFed x p b l t u cs
   all_fed [] b l t u e r = tt
@@ -133,11 +108,11 @@ open_said false none e = absurd (omega arith)
 open_said b (some r) e = let k = some_number r in absurd (omega arith)
 
 no_ticks-is-state : IsState no_ticks
-no_ticks-is-state = record { ticks = omega arith; count = refl; values = all-values (replicate 8 (pos 0)) refl; flag_count = refl; flags = refl }
+no_ticks-is-state = record { ticks = omega arith; count = refl; values = all-values (replicate 8 (pos 0)) refl }
 
 pub host_demand3 : HostDemand3
 host_demand3 x p i l t u e calls =
-    let k = open_said (leb 17 (length l)) (open_refusal p (length t) (length u)) (subst (λ (a : Answer). opened_number a l t u ≡ 0) i e) in
+    let k = open_said (leb 9 (length l)) (open_refusal p (length t) (length u)) (subst (λ (a : Answer). opened_number a l t u ≡ 0) i e) in
     let w = written-is-read no_ticks l no_ticks-is-state in
     let o : opened_state (read_of x) l t u ≡ with_state no_ticks l = rw (i, k.0, k.1) in
     let f : opened_first (read_of x) l t u ≡ open_first p t u = rw (i, k.0) in

@@ -9,7 +9,7 @@ use Rattle.monitor.specs.declared.Answer as monitor
 use Rattle.monitor.specs.declared.Answer.TheVariants.{Done, Refused}
 use Rattle.monitor.specs.State.{no_ticks}
 use Rattle.monitor.specs.Open.{answer_number, unless_refused, open_refusal, open_answer, open_first, open_second}
-use Rattle.monitor.specs.Feed.{Call, feed_refusal, feed_answer, feed_state, feed_first, feed_second, feed_scores, feed_lengths}
+use Rattle.monitor.specs.Feed.{Call, feed_answer, feed_state, feed_first, feed_second, feed_scores, feed_lengths}
 use Rattle.state_slice.specs.Slice.{holds_state, state_in, with_state}
 
 -- ---- opening: 7, 11, then 12 for a slice that has no room for a state; what the slice held does not matter
@@ -21,20 +21,20 @@ number_or (Refused r) n = number_of r
 
 abbrev pub opened_number : Answer → (state first second : List ℤ) → ℕ
 opened_number (refused r) l t u = number_of r
-opened_number (accepted p) l t u = number_or (open_answer p t u) (cond (leb 17 (length l)) 0 (number_of BrokenState))
+opened_number (accepted p) l t u = number_or (open_answer p t u) (cond (leb 9 (length l)) 0 (number_of BrokenState))
 
 abbrev pub opened_state : Answer → (state first second : List ℤ) → List ℤ
 opened_state (refused r) l t u = l
 opened_state (accepted p) l t u =
-    cond (leb 17 (length l)) (unless_refused (open_refusal p (length t) (length u)) (with_state no_ticks l) l) l
+    cond (leb 9 (length l)) (unless_refused (open_refusal p (length t) (length u)) (with_state no_ticks l) l) l
 
 abbrev pub opened_first : Answer → (state first second : List ℤ) → List ℤ
 opened_first (refused r) l t u = t
-opened_first (accepted p) l t u = cond (leb 17 (length l)) (open_first p t u) t
+opened_first (accepted p) l t u = cond (leb 9 (length l)) (open_first p t u) t
 
 abbrev pub opened_second : Answer → (state first second : List ℤ) → List ℤ
 opened_second (refused r) l t u = u
-opened_second (accepted p) l t u = cond (leb 17 (length l)) (open_second p t u) u
+opened_second (accepted p) l t u = cond (leb 9 (length l)) (open_second p t u) u
 
 -- ---- feeding: 12 for a slice that holds no state at all; else the feed with the state that it holds
 
@@ -44,8 +44,7 @@ fed_number (accepted p) l t u c = cond (holds_state l) (answer_number (feed_answ
 
 abbrev pub fed_state : Answer → (state first second : List ℤ) → Call → List ℤ
 fed_state (refused r) l t u c = l
-fed_state (accepted p) l t u c =
-    cond (holds_state l) (unless_refused (feed_refusal p (state_in l) t u c) (with_state (feed_state p (state_in l) t u c) l) l) l
+fed_state (accepted p) l t u c = cond (holds_state l) (with_state (feed_state p (state_in l) t u c) l) l
 
 abbrev pub fed_first : Answer → (state first second : List ℤ) → Call → List ℤ
 fed_first (refused r) l t u c = t

@@ -14,11 +14,11 @@ use Rattle.host_monitor.specs.Calls.{opened_number, opened_state, opened_first, 
 -- ---- the numbers for an accepted text. A pattern that was read is sound, so 7 is never among them; the causes are tried in
 -- the order written.
 
--- Opening: 11, then 12 for a slice of fewer than 17 entries.
+-- Opening: 11, then 12 for a slice of fewer than 9 entries.
 abbrev pub OpenedNumbers : Type 0
 OpenedNumbers =
     (x : Bytes) (p : Pattern) → read_of x ≡ accepted p → (l t u : List ℤ)
-    → opened_number (read_of x) l t u ≡ cond (table_too_short p (length t) (length u)) 11 (cond (leb 17 (length l)) 0 12)
+    → opened_number (read_of x) l t u ≡ cond (table_too_short p (length t) (length u)) 11 (cond (leb 9 (length l)) 0 12)
 
 -- Feeding: 12, for a slice that holds no state or a state that is not sound, 11, 8, 13, 14, 6.
 abbrev pub FedNumbers : Type 0
@@ -27,7 +27,7 @@ FedNumbers =
     → fed_number (read_of x) l t u c
     ≡ cond (not (holds_state l && state_sound p (state_in l))) 12
     (cond (table_too_short p (length t) (length u)) 11
-    (cond (piece_broken p c.duration c.values c.read) 8
+    (cond (piece_broken p c.duration c.values) 8
     (cond (too_many_ticks (state_in l).ticks c.duration) 13
     (cond (cells_broken p t) 14
     (cond (reports_too_short (length c.scores) (length c.lengths) c.duration) 6 0)))))

@@ -36,7 +36,6 @@ fn no_ticks() -> State
     State {
         ticks: 0,
         last: [0, 0, 0, 0, 0, 0, 0, 0],
-        read: [1, 1, 1, 1, 1, 1, 1, 1],
     }
 }
 
@@ -50,7 +49,7 @@ pub fn open_pattern(p: Pattern, state: &mut [i64], first: &mut [i64], second: &m
     ensures second_after { second.new
         ≡ opened_second (accepted p) state.old first.old second.old }
 {
-    if state.len() < 17 {
+    if state.len() < 9 {
         return number_or(open_refusal(p, first.len(), second.len()), 12);
     }
     let none = no_ticks();
@@ -74,28 +73,27 @@ pub fn feed_pattern(
     second: &mut [i64],
     duration: u32,
     values: &[i32],
-    read: &[u8],
     scores: &mut [i64],
     lengths: &mut [u32],
 ) -> u32
     ensures value { result ≡ fed_number (accepted p) state.old first.old second.old
-        (call_of duration values.now read.now scores.old lengths.old) }
+        (call_of duration values.now scores.old lengths.old) }
     ensures state_after { state.new ≡ fed_state (accepted p) state.old first.old second.old
-        (call_of duration values.now read.now scores.old lengths.old) }
+        (call_of duration values.now scores.old lengths.old) }
     ensures first_after { first.new ≡ fed_first (accepted p) state.old first.old second.old
-        (call_of duration values.now read.now scores.old lengths.old) }
+        (call_of duration values.now scores.old lengths.old) }
     ensures second_after { second.new ≡ fed_second (accepted p) state.old first.old second.old
-        (call_of duration values.now read.now scores.old lengths.old) }
+        (call_of duration values.now scores.old lengths.old) }
     ensures scores_after { scores.new ≡ fed_scores (accepted p) state.old first.old second.old
-        (call_of duration values.now read.now scores.old lengths.old) }
+        (call_of duration values.now scores.old lengths.old) }
     ensures lengths_after { lengths.new ≡ fed_lengths (accepted p) state.old first.old second.old
-        (call_of duration values.now read.now scores.old lengths.old) }
+        (call_of duration values.now scores.old lengths.old) }
 {
     if !holds_state(state) {
         return 12;
     }
     let s = state_in(state);
-    let after = feed_through(s, p, first, second, duration, values, read, scores, lengths);
+    let after = feed_through(s, p, first, second, duration, values, scores, lengths);
     let later = after.state;
     let answer = after.answer;
     match answer {

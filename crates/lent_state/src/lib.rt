@@ -31,29 +31,26 @@ pub fn feed(
     second: &mut [i64],
     duration: u32,
     values: &[i32],
-    read: &[u8],
     scores: &mut [i64],
     lengths: &mut [u32],
 ) -> Answer
     ensures value { result ≡ feed_answer p state.old first.old second.old
-        (call_of duration values.now read.now scores.old lengths.old) }
+        (call_of duration values.now scores.old lengths.old) }
     ensures result_value { answer_number result ≡ feed_number p state.old first.old second.old
-        (call_of duration values.now read.now scores.old lengths.old) }
+        (call_of duration values.now scores.old lengths.old) }
     ensures state_after { state.new ≡ feed_state p state.old first.old second.old
-        (call_of duration values.now read.now scores.old lengths.old) }
+        (call_of duration values.now scores.old lengths.old) }
     ensures first_after { first.new ≡ feed_first p state.old first.old second.old
-        (call_of duration values.now read.now scores.old lengths.old) }
+        (call_of duration values.now scores.old lengths.old) }
     ensures second_after { second.new ≡ feed_second p state.old first.old second.old
-        (call_of duration values.now read.now scores.old lengths.old) }
+        (call_of duration values.now scores.old lengths.old) }
     ensures scores_after { scores.new ≡ feed_scores p state.old first.old second.old
-        (call_of duration values.now read.now scores.old lengths.old) }
+        (call_of duration values.now scores.old lengths.old) }
     ensures lengths_after { lengths.new ≡ feed_lengths p state.old first.old second.old
-        (call_of duration values.now read.now scores.old lengths.old) }
+        (call_of duration values.now scores.old lengths.old) }
 {
     let before = *state;
-    let after = feed::feed(
-        before, p, first, second, duration, values, read, scores, lengths,
-    );
+    let after = feed::feed(before, p, first, second, duration, values, scores, lengths);
     let fed = after.state;
     *state = fed;
     after.answer
@@ -81,24 +78,23 @@ pub fn feed_through(
     second: &mut [i64],
     duration: u32,
     values: &[i32],
-    read: &[u8],
     scores: &mut [i64],
     lengths: &mut [u32],
 ) -> After
     ensures value { result ≡ fed_of p s first.old second.old
-        (call_of duration values.now read.now scores.old lengths.old) }
+        (call_of duration values.now scores.old lengths.old) }
     ensures first_after { first.new ≡ feed_first p s first.old second.old
-        (call_of duration values.now read.now scores.old lengths.old) }
+        (call_of duration values.now scores.old lengths.old) }
     ensures second_after { second.new ≡ feed_second p s first.old second.old
-        (call_of duration values.now read.now scores.old lengths.old) }
+        (call_of duration values.now scores.old lengths.old) }
     ensures scores_after { scores.new ≡ feed_scores p s first.old second.old
-        (call_of duration values.now read.now scores.old lengths.old) }
+        (call_of duration values.now scores.old lengths.old) }
     ensures lengths_after { lengths.new ≡ feed_lengths p s first.old second.old
-        (call_of duration values.now read.now scores.old lengths.old) }
+        (call_of duration values.now scores.old lengths.old) }
 {
     let mut lent = s;
     let answer = feed(
-        &mut lent, p, first, second, duration, values, read, scores, lengths,
+        &mut lent, p, first, second, duration, values, scores, lengths,
     );
     After {
         state: lent,

@@ -1,25 +1,23 @@
 -- What an accepted call may go by: each check's outcome, from an answer that is `Done`.
 use Prim.Native.Nat.{ℕ, ◌+◌, ◌≤◌}
 use native.Mathlib.Omega.{arith}
-use mathlib.Core.Path.{◌≡◌, refl, sym, ap, ◌∙◌}
+use mathlib.Core.Path.{◌≡◌, refl, sym}
 use mathlib.Core.List.{List, [], ◌∷◌}
 use mathlib.Core.Option.{Option, none, some, none-ne-some}
 use mathlib.Core.Bool.{Bool, true, false, not, ◌&&◌, ◌||◌}
 use borrow.Author.Tests.{leb-true, ltb-false, eqb-true, not-false, le-ltb}
 use lib.Dec.{eqb, leb, ltb}
-use lib.ListN.{length, take, drop}
+use lib.ListN.{length, take}
 use lib.IntN.{ℤ}
 use Rattle.pattern.specs.declared.Pattern.{Pattern}
 use Rattle.pattern.specs.declared.Refusal.{Refusal}
 use Rattle.pattern.specs.declared.Refusal.TheVariants.{UnsoundPattern, BrokenState, TableTooShort, BrokenRecord, TooManyTicks, BrokenCell, OutputTooShort}
 use Rattle.pattern.specs.Slots.{all, within}
-use Rattle.pattern.specs.Sound.{is_null, sound_of}
+use Rattle.pattern.specs.Sound.{sound_of}
 use Rattle.pattern.specs.Cells.{cells_needed}
+use Rattle.pattern.specs.Distance.{Sample}
 use Rattle.pattern.proofs.SoundLaws.{both}
-use Rattle.pattern.specs.Distance.{Values}
-use Rattle.record.specs.Reading.{values_of, is_set, readings, read_sound}
 use Rattle.record.specs.Record.{value_in_range}
-use Rattle.record.proofs.ReadingLaws.{readings-values, read_length, length-readings}
 use Rattle.monitor.specs.declared.State.{State}
 use Rattle.monitor.specs.declared.Answer.TheVariants.{Done, Refused}
 use Rattle.monitor.specs.State.{state_sound}
@@ -76,18 +74,16 @@ opened p m n e =
 
 -- ---- a piece
 
-pub record Whole (p : Pattern) (d : ℕ) (vs : Values) (fs : List ℕ) : Type 0 where
+pub record Whole (p : Pattern) (d : ℕ) (vs : Sample) : Type 0 where
   pub low : 1 ≤ d
   pub high : d ≤ 65535
   pub count : length vs ≡ p.channels
   pub values : all value_in_range vs ≡ true
-  pub lent : read_sound vs fs ≡ true
 
-pub whole : (p : Pattern) (d : ℕ) (vs : Values) (fs : List ℕ) → piece_broken p d vs fs ≡ false → Whole p d vs fs
+pub whole : (p : Pattern) (d : ℕ) (vs : Sample) → piece_broken p d vs ≡ false → Whole p d vs
 unfolding piece_broken
-whole p d vs fs e =
-    let g = both (within 1 65535 d && eqb (length vs) p.channels && all value_in_range vs) (read_sound vs fs) (not-false _ e) in
-    let h = both (within 1 65535 d && eqb (length vs) p.channels) (all value_in_range vs) g.0 in
+whole p d vs e =
+    let h = both (within 1 65535 d && eqb (length vs) p.channels) (all value_in_range vs) (not-false _ e) in
     let k = both (within 1 65535 d) (eqb (length vs) p.channels) h.0 in
     let l = both (leb 1 d) (leb d 65535) k.0 in
     record {
@@ -95,67 +91,34 @@ whole p d vs fs e =
       high = leb-true d 65535 l.1;
       count = eqb-true (length vs) p.channels k.1;
       values = h.1;
-      lent = g.1;
     }
-
--- its sample: a reading for each channel, which holds the piece's value
-module _ (p : Pattern) (d : ℕ) (vs : Values) (fs : List ℕ) (w : Whole p d vs fs) where
-  pub sample-long : length (readings vs fs) ≡ p.channels
-  sample-long = length-readings vs fs (read_length vs fs w.lent) ∙ w.count
-
-  pub sample-held : values_of (readings vs fs) ≡ vs
-  sample-held = readings-values vs fs w.lent
-
-  pub sample-fine : all value_in_range (values_of (readings vs fs)) ≡ true
-  sample-fine = ap (all value_in_range) sample-held ∙ w.values
-
--- ---- the state
-
--- zeros in unused channels; its flags go with its values, and those of unused channels are set
-pub record Read (p : Pattern) (s : State) : Type 0 where
-  pub zeros : all is_null (drop p.channels s.last) ≡ true
-  pub lent : read_sound s.last s.read ≡ true
-  pub unused : all is_set (drop p.channels s.read) ≡ true
-
-pub state-read : (p : Pattern) (s : State) → state_sound p s ≡ true → Read p s
-unfolding state_sound
-state-read p s e =
-    let range : Bool = leb s.ticks 2147483647 && all value_in_range (take p.channels s.last) in
-    let zeros = all is_null (drop p.channels s.last) in
-    let first = not (eqb s.ticks 0) || all is_null s.last in
-    let lent = read_sound s.last s.read in
-    let unused = all is_set (drop p.channels s.read) in
-    let a = both (range && zeros && first && lent && unused) (not (eqb s.ticks 0) || all is_set s.read) e in
-    let b = both (range && zeros && first && lent) unused a.0 in
-    let c = both (range && zeros && first) lent b.0 in
-    record { zeros = (both range zeros (both (range && zeros) first c.0).0).1; lent = c.1; unused = b.1 }
 
 -- ---- a feed
 
-pub record Fed (p : Pattern) (s : State) (t : List ℤ) (second d : ℕ) (vs : Values) (fs : List ℕ) (m n : ℕ) : Type 0 where
+pub record Fed (p : Pattern) (s : State) (t : List ℤ) (second d : ℕ) (vs : Sample) (m n : ℕ) : Type 0 where
   pub sound : sound_of p ≡ true
   pub state : state_sound p s ≡ true
   pub tables : Long p (length t) second
-  pub piece : Whole p d vs fs
+  pub piece : Whole p d vs
   pub room : s.ticks + d ≤ 2147483647
   pub cells : all cell_fine (take (cells_needed p) t) ≡ true
   pub scores : d ≤ m
   pub lengths : d ≤ n
 
-pub fed : (p : Pattern) (s : State) (t : List ℤ) (second d : ℕ) (vs : Values) (fs : List ℕ) (scores lengths : ℕ)
-    → feed_cause p s t second d vs fs scores lengths ≡ none → Fed p s t second d vs fs scores lengths
+pub fed : (p : Pattern) (s : State) (t : List ℤ) (second d : ℕ) (vs : Sample) (scores lengths : ℕ)
+    → feed_cause p s t second d vs scores lengths ≡ none → Fed p s t second d vs scores lengths
 unfolding feed_cause cells_broken
-fed p s t second d vs fs scores lengths e =
+fed p s t second d vs scores lengths e =
     let six : List (Bool × Refusal) = (reports_too_short scores lengths d, OutputTooShort) ∷ [] in
     let five : List (Bool × Refusal) = (cells_broken p t, BrokenCell) ∷ six in
     let four : List (Bool × Refusal) = (too_many_ticks s.ticks d, TooManyTicks) ∷ five in
-    let three : List (Bool × Refusal) = (piece_broken p d vs fs, BrokenRecord) ∷ four in
+    let three : List (Bool × Refusal) = (piece_broken p d vs, BrokenRecord) ∷ four in
     let two : List (Bool × Refusal) = (table_too_short p (length t) second, TableTooShort) ∷ three in
     let one : List (Bool × Refusal) = (not (state_sound p s), BrokenState) ∷ two in
     let a = no_cause (not (sound_of p)) UnsoundPattern one e in
     let b = no_cause (not (state_sound p s)) BrokenState two a.1 in
     let c = no_cause (table_too_short p (length t) second) TableTooShort three b.1 in
-    let f = no_cause (piece_broken p d vs fs) BrokenRecord four c.1 in
+    let f = no_cause (piece_broken p d vs) BrokenRecord four c.1 in
     let g = no_cause (too_many_ticks s.ticks d) TooManyTicks five f.1 in
     let h = no_cause (cells_broken p t) BrokenCell six g.1 in
     let i = no_cause (reports_too_short scores lengths d) OutputTooShort [] h.1 in
@@ -164,7 +127,7 @@ fed p s t second d vs fs scores lengths e =
       sound = not-false _ a.0;
       state = not-false _ b.0;
       tables = long p (length t) second c.0;
-      piece = whole p d vs fs f.0;
+      piece = whole p d vs f.0;
       room = ltb-false 2147483647 (s.ticks + d) g.0;
       cells = not-false _ h.0;
       scores = ltb-false scores d slices.0;
@@ -172,11 +135,11 @@ fed p s t second d vs fs scores lengths e =
     }
 
 -- of the second table only that it is long enough counts
-pub any_second : (p : Pattern) (s : State) (t : List ℤ) (second other d : ℕ) (vs : Values) (fs : List ℕ) (scores lengths : ℕ)
-    → feed_cause p s t second d vs fs scores lengths ≡ none → cells_needed p ≤ other → feed_cause p s t other d vs fs scores lengths ≡ none
+pub any_second : (p : Pattern) (s : State) (t : List ℤ) (second other d : ℕ) (vs : Sample) (scores lengths : ℕ)
+    → feed_cause p s t second d vs scores lengths ≡ none → cells_needed p ≤ other → feed_cause p s t other d vs scores lengths ≡ none
 unfolding feed_cause
-any_second p s t second other d vs fs scores lengths e h =
-    let k = (fed p s t second d vs fs scores lengths e).tables in
+any_second p s t second other d vs scores lengths e h =
+    let k = (fed p s t second d vs scores lengths e).tables in
     let a : table_too_short p (length t) second ≡ false = rw (le-ltb (length t) (cells_needed p) k.first, le-ltb second (cells_needed p) k.second) in
     let b : table_too_short p (length t) other ≡ false = rw (le-ltb (length t) (cells_needed p) k.first, le-ltb other (cells_needed p) h) in
     rw b (rw a at e)

@@ -42,7 +42,7 @@ feed-numbers p s t u c =
     ((not (sound_of p), UnsoundPattern)
     ∷ (not (state_sound p s), BrokenState)
     ∷ (table_too_short p (length t) (length u), TableTooShort)
-    ∷ (piece_broken p c.duration c.values c.read, BrokenRecord)
+    ∷ (piece_broken p c.duration c.values, BrokenRecord)
     ∷ (too_many_ticks s.ticks c.duration, TooManyTicks)
     ∷ (cells_broken p t, BrokenCell)
     ∷ (reports_too_short (length c.scores) (length c.lengths) c.duration, OutputTooShort)
@@ -51,7 +51,7 @@ feed-numbers p s t u c =
 -- a call that is refused as the book says
 pub possible_number : (p : Pattern) (b : Book) (c : Call) → PossibleNumber (answer_number (answer_of (refusal_by p b c)))
 unfolding refusal_by
-possible_number p b c = by (piece_broken p c.duration c.values c.read) (too_many_ticks (length b) c.duration) (reports_too_short (length c.scores) (length c.lengths) c.duration)
+possible_number p b c = by (piece_broken p c.duration c.values) (too_many_ticks (length b) c.duration) (reports_too_short (length c.scores) (length c.lengths) c.duration)
   where
     by : (x y z : Bool) → PossibleNumber (answer_number (answer_of (first_cause ((x, BrokenRecord) ∷ (y, TooManyTicks) ∷ (z, OutputTooShort) ∷ []))))
     by true y z = inr (inl refl)

@@ -7,7 +7,7 @@ use mathlib.Core.Option.{none, some}
 use mathlib.Core.Bool.{Bool, true, false, not, ◌||◌, or-true}
 use borrow.Author.Tests.{ltb-true, ltb-false, le-leb, le-ltb, ne_eqb}
 use lib.Dec.{eqb, leb, ltb}
-use lib.ListN.{length, take, drop, replicate, length-append, length-replicate, length-map, get_or-eq_default}
+use lib.ListN.{length, take, drop, replicate, length-append, length-replicate, get_or-eq_default}
 use lib.Seq.{take_at, drop_at}
 use lib.IntN.{ℤ, pos, nat_abs}
 use Rattle.weighting.specs.Weightings.{weighting_of}
@@ -20,11 +20,10 @@ use Rattle.pattern.specs.Slots.{all}
 use Rattle.pattern.specs.Sound.{is_null, sound_of}
 use Rattle.pattern.specs.Clocks.{Clocks}
 use Rattle.pattern.specs.Cells.{cells_needed}
+use Rattle.pattern.specs.Distance.{Sample}
 use Rattle.pattern.proofs.SoundLaws.{parts}
 use Rattle.pattern.proofs.SlotLaws.{all_append}
-use Rattle.record.specs.Reading.{Sample, values_of, is_set, readings, read_sound, flags_of}
 use Rattle.record.specs.Record.{Book, value_in_range}
-use Rattle.record.proofs.ReadingLaws.{readings_own, read_own, readings-append, read-append, read_set, ones_set, zeros-values, zeros-flags}
 use Rattle.walks.specs.Automaton.{State as Place}
 use Rattle.walks.specs.Tables.{Table}
 use Rattle.walks.proofs.Cut.{cut, only-passed, only-cells}
@@ -35,17 +34,17 @@ use Rattle.monitor.specs.Cells.{cell_states, held_by, written}
 use Rattle.monitor.specs.Tick.{open_table, ticks_later}
 use Rattle.monitor.specs.State.{last_sample, state_sound, piece_later}
 use Rattle.monitor.specs.Open.{marks}
-use Rattle.monitor.specs.Feed.{Call, sample_of, piece_broken, too_many_ticks, reports_too_short, feed_cause, feed_refusal, piece_view, table_after}
+use Rattle.monitor.specs.Feed.{Call, piece_broken, too_many_ticks, reports_too_short, feed_cause, feed_refusal, piece_view, table_after}
 use Rattle.monitor.specs.Demand.{refusal_by}
 use Rattle.monitor.proofs.CellLaws.{Celled, of_cells, in_cells}
 use Rattle.monitor.proofs.Sizes.{table_sized, sized_low}
 use Rattle.monitor.proofs.Written.{held-written, written-length, marks-length, cells-fine}
-use Rattle.monitor.proofs.Accepted.{no_cause, neither, whole, sample-long, sample-fine}
+use Rattle.monitor.proofs.Accepted.{no_cause, neither, whole}
 use Rattle.monitor.proofs.PieceViews.{sample-front, view_front, longer, sample-new, view_new, before-end}
 
 -- a sample as an accepted piece has it
 abbrev pub Fine : Pattern → Sample → Type 0
-Fine p x = (length x ≡ p.channels) × (all value_in_range (values_of x) ≡ true)
+Fine p x = (length x ≡ p.channels) × (all value_in_range x ≡ true)
 
 -- the table that the book's ticks make
 abbrev pub book_table : Pattern → Book → Table ℤ Clocks
@@ -56,8 +55,7 @@ pub record Between (p : Pattern) (b : Book) (s : State) (t u : List ℤ) : Type 
   pub ticks : s.ticks ≡ length b
   pub few : length b ≤ 2147483647
   pub fine : (i : ℕ) → i < length b → Fine p (sample_at b i)
-  pub last : s.last ≡ values_of (before p b (length b)) ++ replicate (8 - p.channels) (pos 0)
-  pub read : s.read ≡ flags_of (before p b (length b)) ++ replicate (8 - p.channels) 1
+  pub last : s.last ≡ before p b (length b) ++ replicate (8 - p.channels) (pos 0)
   pub first_long : cells_needed p ≤ length t
   pub second_long : cells_needed p ≤ length u
   pub holds : (x : Place Clocks) → Memᴰ x (cell_states p) → held_by p t x ≡ book_table p b x
@@ -73,10 +71,10 @@ zeros-fine zero = refl
 zeros-fine (suc n) = zeros-fine n
 
 -- every sample of a fine book, and past its end nothing, is in range
-pub all-fine : (p : Pattern) (b : Book) → ((i : ℕ) → i < length b → Fine p (sample_at b i)) → (i : ℕ) → all value_in_range (values_of (sample_at b i)) ≡ true
+pub all-fine : (p : Pattern) (b : Book) → ((i : ℕ) → i < length b → Fine p (sample_at b i)) → (i : ℕ) → all value_in_range (sample_at b i) ≡ true
 all-fine p b h i = by (ltb i (length b)) refl
   where
-    by : (x : Bool) → ltb i (length b) ≡ x → all value_in_range (values_of (sample_at b i)) ≡ true
+    by : (x : Bool) → ltb i (length b) ≡ x → all value_in_range (sample_at b i) ≡ true
     by true e = (h i (ltb-true i (length b) e)).1
     by false e = rw (get_or-eq_default b [] {n = i} (ltb-false i (length b) e))
 
@@ -100,30 +98,14 @@ module _ (p : Pattern) (b : Book) (s : State) (t u : List ℤ) (h : Between p b 
   before-fine = by (length b) refl
     where
       by : (n : ℕ) → length b ≡ n → Fine p (before p b n)
-      by zero e = (length-replicate p.channels (some (pos 0)), ap (all value_in_range) (zeros-values p.channels) ∙ zeros-fine p.channels)
+      by zero e = (length-replicate p.channels (pos 0), zeros-fine p.channels)
       by (suc n) e = h.fine n (omega arith)
 
-  -- what stands for them
-  values-long : length (values_of (before p b (length b))) ≡ p.channels
-  values-long = length-map (before p b (length b)) _ ∙ before-fine.0
-
-  flags_long : length (flags_of (before p b (length b))) ≡ p.channels
-  flags_long = length-map (before p b (length b)) _ ∙ before-fine.0
-
   pub last-is : last_sample p s ≡ before p b (length b)
-  last-is =
-      let x = before p b (length b) in
-      rw (h.last, h.read, readings-append (values_of x) (replicate (8 - p.channels) (pos 0)) (flags_of x) (replicate (8 - p.channels) 1) (flags_long ∙ sym values-long), readings_own x)
-      (take_at x (readings (replicate (8 - p.channels) (pos 0)) (replicate (8 - p.channels) 1)) p.channels before-fine.0)
-
-  values_are : take p.channels s.last ≡ values_of (before p b (length b))
-  values_are = ap (take p.channels) h.last ∙ take_at (values_of (before p b (length b))) (replicate (8 - p.channels) (pos 0)) p.channels values-long
+  last-is = ap (take p.channels) h.last ∙ take_at (before p b (length b)) (replicate (8 - p.channels) (pos 0)) p.channels before-fine.0
 
   pub rest-is : drop p.channels s.last ≡ replicate (8 - p.channels) (pos 0)
-  rest-is = ap (drop p.channels) h.last ∙ drop_at (values_of (before p b (length b))) (replicate (8 - p.channels) (pos 0)) p.channels values-long
-
-  rest_read : drop p.channels s.read ≡ replicate (8 - p.channels) 1
-  rest_read = ap (drop p.channels) h.read ∙ drop_at (flags_of (before p b (length b))) (replicate (8 - p.channels) 1) p.channels flags_long
+  rest-is = ap (drop p.channels) h.last ∙ drop_at (before p b (length b)) (replicate (8 - p.channels) (pos 0)) p.channels before-fine.0
 
   -- ---- no other cause can arise
 
@@ -134,22 +116,9 @@ module _ (p : Pattern) (b : Book) (s : State) (t u : List ℤ) (h : Between p b 
       by : (n : ℕ) → length b ≡ n → not (eqb s.ticks 0) || all is_null s.last ≡ true
       by zero e =
           let z : all is_null s.last ≡ true =
-          ap (all is_null) (h.last ∙ ap (λ (n : ℕ). values_of (before p b n) ++ replicate (8 - p.channels) (pos 0)) e ∙ ap (λ (zs : List ℤ). zs ++ replicate (8 - p.channels) (pos 0)) (zeros-values p.channels))
+          ap (all is_null) (h.last ∙ ap (λ (n : ℕ). before p b n ++ replicate (8 - p.channels) (pos 0)) e)
           ∙ all_append is_null (replicate p.channels (pos 0)) (replicate (8 - p.channels) (pos 0))
           ∙ rw (zeros_null p.channels, zeros_null (8 - p.channels)) in
-          rw z (or-true (not (eqb s.ticks 0)))
-      by (suc n) e = let q = h.ticks in let no : s.ticks ≡ 0 → ⊥ = λ x. omega arith in rw (ne_eqb s.ticks 0 no)
-
-  read_due : not (eqb s.ticks 0) || all is_set s.read ≡ true
-  unfolding before
-  read_due = by (length b) refl
-    where
-      by : (n : ℕ) → length b ≡ n → not (eqb s.ticks 0) || all is_set s.read ≡ true
-      by zero e =
-          let z : all is_set s.read ≡ true =
-          ap (all is_set) (h.read ∙ ap (λ (n : ℕ). flags_of (before p b n) ++ replicate (8 - p.channels) 1) e ∙ ap (λ (fs : List ℕ). fs ++ replicate (8 - p.channels) 1) (zeros-flags p.channels))
-          ∙ all_append is_set (replicate p.channels 1) (replicate (8 - p.channels) 1)
-          ∙ rw (ones_set p.channels, ones_set (8 - p.channels)) in
           rw z (or-true (not (eqb s.ticks 0)))
       by (suc n) e = let q = h.ticks in let no : s.ticks ≡ 0 → ⊥ = λ x. omega arith in rw (ne_eqb s.ticks 0 no)
 
@@ -157,12 +126,9 @@ module _ (p : Pattern) (b : Book) (s : State) (t u : List ℤ) (h : Between p b 
   unfolding state_sound
   state-fine =
       let few : leb s.ticks 2147483647 ≡ true = le-leb s.ticks 2147483647 (let q = h.ticks in let f = h.few in omega arith) in
-      let values : all value_in_range (take p.channels s.last) ≡ true = ap (all value_in_range) values_are ∙ before-fine.1 in
+      let values : all value_in_range (take p.channels s.last) ≡ true = ap (all value_in_range) last-is ∙ before-fine.1 in
       let rest : all is_null (drop p.channels s.last) ≡ true = ap (all is_null) rest-is ∙ zeros_null (8 - p.channels) in
-      let x = before p b (length b) in
-      let kept : read_sound s.last s.read ≡ true = rw (h.last, h.read) (read-append (values_of x) (replicate (8 - p.channels) (pos 0)) (flags_of x) (replicate (8 - p.channels) 1) (read_own x) (read_set (replicate (8 - p.channels) (pos 0)) (8 - p.channels) (length-replicate (8 - p.channels) (pos 0)))) in
-      let ones : all is_set (drop p.channels s.read) ≡ true = ap (all is_set) rest_read ∙ ones_set (8 - p.channels) in
-      rw (few, values, rest, zeros_due, kept, ones, read_due)
+      rw (few, values, rest) zeros_due
 
   table-low : (x : Place Clocks) (z : ℤ) → Celled p h.sound x → held_by p t x ≡ some z → nat_abs z ≤ 32760000000
   table-low x z k e =
@@ -180,7 +146,7 @@ module _ (p : Pattern) (b : Book) (s : State) (t u : List ℤ) (h : Between p b 
     -- an accepted piece is whole, its values are in range, and there is room
     pub record Piece : Type 0 where
       pub some : 1 ≤ c.duration
-      pub values : Fine p (sample_of c)
+      pub values : Fine p c.values
       pub room : length b + c.duration ≤ 2147483647
       pub scores : c.duration ≤ length c.scores
       pub lengths : c.duration ≤ length c.lengths
@@ -189,14 +155,14 @@ module _ (p : Pattern) (b : Book) (s : State) (t u : List ℤ) (h : Between p b 
     unfolding refusal_by
     piece =
         let third : List (Bool × Refusal) = (reports_too_short (length c.scores) (length c.lengths) c.duration, OutputTooShort) ∷ [] in
-        let one = no_cause (piece_broken p c.duration c.values c.read) BrokenRecord ((too_many_ticks (length b) c.duration, TooManyTicks) ∷ third) accepted in
+        let one = no_cause (piece_broken p c.duration c.values) BrokenRecord ((too_many_ticks (length b) c.duration, TooManyTicks) ∷ third) accepted in
         let two = no_cause (too_many_ticks (length b) c.duration) TooManyTicks third one.1 in
         let three = no_cause (reports_too_short (length c.scores) (length c.lengths) c.duration) OutputTooShort [] two.1 in
-        let w = whole p c.duration c.values c.read one.0 in
+        let w = whole p c.duration c.values one.0 in
         let slices = neither (ltb (length c.scores) c.duration) (ltb (length c.lengths) c.duration) three.0 in
         record {
           some = w.low;
-          values = (sample-long p c.duration c.values c.read w, sample-fine p c.duration c.values c.read w);
+          values = (w.count, w.values);
           room = ltb-false 2147483647 (length b + c.duration) two.0;
           scores = ltb-false (length c.scores) c.duration slices.0;
           lengths = ltb-false (length c.lengths) c.duration slices.1;
@@ -204,56 +170,55 @@ module _ (p : Pattern) (b : Book) (s : State) (t u : List ℤ) (h : Between p b 
 
     -- the book with the piece
     abbrev pub next : Book
-    next = longer p b c.duration (sample_of c)
+    next = longer p b c.duration c.values
 
     abbrev d : ℕ
     d = c.duration
 
     pub next-length : length next ≡ length b + d
-    next-length = length-append b (replicate d (sample_of c)) ∙ ap (λ (n : ℕ). length b + n) (length-replicate d (sample_of c))
+    next-length = length-append b (replicate d c.values) ∙ ap (λ (n : ℕ). length b + n) (length-replicate d c.values)
 
     -- the table n ticks into the piece is the book's
-    pub ticks-in : (n : ℕ) → n ≤ d → (x : Place Clocks) → Memᴰ x (cell_states p) → table_after p s t (sample_of c) n x ≡ ticks_later p (view_of p next) (open_table p) (length b + n) x
+    pub ticks-in : (n : ℕ) → n ≤ d → (x : Place Clocks) → Memᴰ x (cell_states p) → table_after p s t c.values n x ≡ ticks_later p (view_of p next) (open_table p) (length b + n) x
     ticks-in n l x m =
         let 𝓦 = weighting_of p.weighing in
         let A = held_automaton p in
         let old : book_table p b ≡ ticks_later p (view_of p next) (open_table p) (length b) =
-        only-passed 𝓦 A same_clocks p.high (cell_states p) (view_of p b) (view_of p next) (open_table p) (length b) (λ i f k q. sym (view_front p b (replicate d (sample_of c)) i f k q)) in
+        only-passed 𝓦 A same_clocks p.high (cell_states p) (view_of p b) (view_of p next) (open_table p) (length b) (λ i f k q. sym (view_front p b (replicate d c.values) i f k q)) in
         let same : (y : Place Clocks) → Memᴰ y (cell_states p) → held_by p t y ≡ ticks_later p (view_of p next) (open_table p) (length b) y =
         λ y i. h.holds y i ∙ ap (λ (U : Table ℤ Clocks). U y) old in
-        only-cells 𝓦 A same_clocks p.high (cell_states p) (piece_view p (last_sample p s) (sample_of c)) (held_by p t) (ticks_later p (view_of p next) (open_table p) (length b)) same n x m
-        ∙ ap (λ (U : Table ℤ Clocks). U x) (sym (cut 𝓦 A same_clocks p.high (cell_states p) (view_of p next) (piece_view p (last_sample p s) (sample_of c)) (open_table p) (length b) n
-        (λ j f k q. rw last-is (view_new p b d (sample_of c) j f k (omega arith)))))
+        only-cells 𝓦 A same_clocks p.high (cell_states p) (piece_view p (last_sample p s) c.values) (held_by p t) (ticks_later p (view_of p next) (open_table p) (length b)) same n x m
+        ∙ ap (λ (U : Table ℤ Clocks). U x) (sym (cut 𝓦 A same_clocks p.high (cell_states p) (view_of p next) (piece_view p (last_sample p s) c.values) (open_table p) (length b) n
+        (λ j f k q. rw last-is (view_new p b d c.values j f k (omega arith)))))
 
     pub next-fine : (i : ℕ) → i < length next → Fine p (sample_at next i)
     next-fine i l = by (ltb i (length b)) refl
       where
         by : (x : Bool) → ltb i (length b) ≡ x → Fine p (sample_at next i)
-        by true e = let k = ltb-true i (length b) e in rw (sample-front p b (replicate d (sample_of c)) i k) (h.fine i k)
+        by true e = let k = ltb-true i (length b) e in rw (sample-front p b (replicate d c.values) i k) (h.fine i k)
         by false e =
             let k = ltb-false i (length b) e in
             let q = next-length in
             let z : length b + (i - length b) ≡ i = omega arith in
-            subst (λ (j : ℕ). Fine p (sample_at next j)) z (rw (sample-new p b d (sample_of c) (i - length b) (omega arith)) piece.values)
+            subst (λ (j : ℕ). Fine p (sample_at next j)) z (rw (sample-new p b d c.values (i - length b) (omega arith)) piece.values)
 
     -- what holds after the call
-    pub go_on_lem : Between p next (piece_later p s d (sample_of c)) (written p (table_after p s t (sample_of c) d) t) (marks p u)
+    pub go_on_lem : Between p next (piece_later p s d c.values) (written p (table_after p s t c.values d) t) (marks p u)
     go_on_lem =
         record {
           sound = h.sound;
           ticks = ap (λ (n : ℕ). n + d) h.ticks ∙ sym next-length;
           few = let q = next-length in let r = piece.room in omega arith;
           fine = next-fine;
-          last = rw (rest-is, next-length, before-end p b d (sample_of c) piece.some);
-          read = rw (next-length, before-end p b d (sample_of c) piece.some);
-          first_long = let e = written-length p h.sound (table_after p s t (sample_of c) d) t h.first_long in let l = h.first_long in omega arith;
+          last = rw (rest-is, next-length, before-end p b d c.values piece.some);
+          first_long = let e = written-length p h.sound (table_after p s t c.values d) t h.first_long in let l = h.first_long in omega arith;
           second_long = let e = marks-length p h.sound u h.second_long in let l = h.second_long in omega arith;
           holds = λ x m. held x m;
         }
       where
-        held : (x : Place Clocks) → Memᴰ x (cell_states p) → held_by p (written p (table_after p s t (sample_of c) d) t) x ≡ book_table p next x
+        held : (x : Place Clocks) → Memᴰ x (cell_states p) → held_by p (written p (table_after p s t c.values d) t) x ≡ book_table p next x
         held x m =
             let is = ticks-in d (omega arith) x m in
-            held-written p h.sound (table_after p s t (sample_of c) d) t x (of_cells p h.sound x m) (λ e. cell_no_mark p h.sound next next-fine (length b + d) x m (sym is ∙ e))
+            held-written p h.sound (table_after p s t c.values d) t x (of_cells p h.sound x m) (λ e. cell_no_mark p h.sound next next-fine (length b + d) x m (sym is ∙ e))
             ∙ is
             ∙ ap (λ (n : ℕ). ticks_later p (view_of p next) (open_table p) n x) (sym next-length)

@@ -29,7 +29,7 @@ use Rattle.monitor.specs.declared.State.{State}
 use Rattle.monitor.specs.Cells.{state_at, cell_states}
 use Rattle.monitor.specs.Tick.{open_table}
 use Rattle.monitor.specs.Open.{open_state, open_first, open_second}
-use Rattle.monitor.specs.Feed.{Call, sample_of, feed_refusal, table_after, feed_state, feed_first, feed_second}
+use Rattle.monitor.specs.Feed.{Call, feed_refusal, table_after, feed_state, feed_first, feed_second}
 use Rattle.monitor.specs.Demand.{book_after}
 use Rattle.monitor.specs.Between.{NowIn, Aside, TablesHold, HoldAfter, CellsHold}
 use Rattle.monitor.proofs.CellLaws.{closed, celled_at, in_cells}
@@ -73,7 +73,7 @@ module _ (p : Pattern) (sound : sound_of p ≡ true) (t₀ u₀ : List ℤ) wher
   aside-after b s t u h k c = by (feed_refusal p s t u c) refl
     where
       by : (o : Option Refusal) → feed_refusal p s t u c ≡ o → Aside p t₀ u₀ (feed_first p s t u c) (feed_second p s t u c)
-      by none e = rw e (aside-written p sound t₀ u₀ (table_after p s t (sample_of c) c.duration) t u h.first_long h.second_long k.further_first k.further_second k.first_long k.second_long)
+      by none e = rw e (aside-written p sound t₀ u₀ (table_after p s t c.values c.duration) t u h.first_long h.second_long k.further_first k.further_second k.first_long k.second_long)
       by (some r) e = rw e k
 
   -- ---- the list of calls
@@ -89,7 +89,7 @@ module _ (p : Pattern) (sound : sound_of p ≡ true) (t₀ u₀ : List ℤ) wher
       }
 
   hold_after : (calls : List Call) (b : Book) (s : State) (t u : List ℤ) → Between p b s t u → Aside p t₀ u₀ t u → HoldAfter p t₀ u₀ b s t u calls
-  hold_after [] b s t u h k = (record { ticks = h.ticks; last = h.last; read = h.read }, holds-now b s t u h k)
+  hold_after [] b s t u h k = (record { ticks = h.ticks; last = h.last }, holds-now b s t u h k)
   hold_after (c ∷ cs) b s t u h k =
       hold_after cs (book_after p b c) (feed_state p s t u c) (feed_first p s t u c) (feed_second p s t u c) (after p b s t u h c) (aside-after b s t u h k c)
 

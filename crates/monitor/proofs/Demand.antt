@@ -6,7 +6,7 @@ use mathlib.Core.Logic.{◌⊎◌}
 use mathlib.Core.List.{List, [], ◌∷◌, ◌++◌}
 use mathlib.Core.Option.{Option, none, some}
 use mathlib.Core.Bool.{true}
-use lib.ListN.{length, get_or, replicate, replicate-append-replicate}
+use lib.ListN.{length, drop, get_or, replicate, replicate-append-replicate}
 use lib.IntN.{ℤ, pos}
 use Rattle.weighting.specs.Weightings.{weighting_of}
 use Rattle.weighting.specs.Shortest.{shortest}
@@ -17,7 +17,6 @@ use Rattle.pattern.specs.Sound.{sound_of}
 use Rattle.pattern.specs.Cells.{cells_needed}
 use Rattle.pattern.proofs.SoundLaws.{parts}
 use Rattle.record.specs.Record.{Book}
-use Rattle.record.proofs.ReadingLaws.{zeros-values, zeros-flags}
 use Rattle.walks.specs.Reports.{Wanted}
 use Rattle.walks.proofs.Rows.{reports-only-cells}
 use Rattle.walks.proofs.ReportsBest.{reports_best}
@@ -31,7 +30,7 @@ use Rattle.monitor.specs.Cells.{cell_states, written}
 use Rattle.monitor.specs.Tick.{open_table, ticks_later, report_of, score_in, length_in}
 use Rattle.monitor.specs.State.{no_ticks}
 use Rattle.monitor.specs.Open.{answer_of, answer_number, unless_refused, marks, open_refusal, open_state, open_first, open_second}
-use Rattle.monitor.specs.Feed.{Call, sample_of, feed_refusal, report_after, feed_state, feed_first, feed_second, feed_scores, feed_lengths}
+use Rattle.monitor.specs.Feed.{Call, feed_refusal, report_after, feed_state, feed_first, feed_second, feed_scores, feed_lengths}
 use Rattle.monitor.specs.Demand.{refusal_by, book_after, InWindow, BestRun, NoRun, Accepted, Rejected, Right, AllRight, Demand3, PossibleNumber, AllPossible, OnlyThreeCauses}
 use Rattle.monitor.proofs.Accepted.{opened as parts-of}
 use Rattle.monitor.proofs.Answers.{possible_number}
@@ -68,11 +67,11 @@ module _ (p : Pattern) (b : Book) (s : State) (t u : List ℤ) (h : Between p b 
     feed_given = refusal_is p b s t u h c ∙ none_given
 
     book-is : book_after p b c ≡ next p b s t u h c none_given
-    book-is = ap (λ (o : Option Refusal). unless_refused o (b ++ replicate c.duration (sample_of c)) b) none_given
+    book-is = ap (λ (o : Option Refusal). unless_refused o (b ++ replicate c.duration c.values) b) none_given
 
     -- the report of a tick is the book's
     report-is : (i : ℕ) → i < c.duration
-        → report_after p s t (sample_of c) i ≡ report_of p (ticks_later p (view_of p (next p b s t u h c none_given)) (open_table p) (length b + i + 1))
+        → report_after p s t c.values i ≡ report_of p (ticks_later p (view_of p (next p b s t u h c none_given)) (open_table p) (length b + i + 1))
     report-is i l =
         let e : length b + suc i ≡ length b + i + 1 = omega arith in
         reports-only-cells (weighting_of p.weighing) (held_automaton p) same_clocks p.high (cell_states p) p.low _ _ (ticks-in p b s t u h c none_given (suc i) (omega arith))
@@ -153,8 +152,7 @@ fresh p t u k =
       ticks = refl;
       few = omega arith;
       fine = none-there;
-      last = rw (zeros-values p.channels) (sym (replicate-append-replicate p.channels (8 - p.channels) (pos 0) ∙ ap (λ (n : ℕ). replicate n (pos 0)) eight));
-      read = rw (zeros-flags p.channels) (sym (replicate-append-replicate p.channels (8 - p.channels) 1 ∙ ap (λ (n : ℕ). replicate n 1) eight));
+      last = sym (replicate-append-replicate p.channels (8 - p.channels) (pos 0) ∙ ap (λ (n : ℕ). replicate n (pos 0)) eight);
       first_long = let l = written-length p k.0 (open_table p) t k.1 in let h = k.1 in omega arith;
       second_long = let l = marks-length p k.0 u k.2 in let h = k.2 in omega arith;
       holds = λ x m. held-written p k.0 (open_table p) t x (of_cells p k.0 x m) (cell_no_mark p k.0 [] none-there 0 x m);

@@ -1,14 +1,11 @@
 -- What feeding makes of any lent table: tables of what is reached from its cells.
-use Prim.Native.Nat.{ℕ, zero, suc, ◌+◌, ◌-◌, ◌<◌}
+use Prim.Native.Nat.{ℕ, zero, suc, ◌+◌, ◌<◌}
 use native.Mathlib.Omega.{arith}
 use mathlib.Core.Path.{◌≡◌, refl, sym, ap, subst, ◌∙◌}
 use mathlib.Core.Logic.{◌⊎◌}
-use mathlib.Core.List.{List, ◌++◌}
+use mathlib.Core.List.{List}
 use mathlib.Core.Option.{Option, none}
-use mathlib.Core.Bool.{true, false}
-use borrow.Author.Tests.{le-leb, ne_eqb}
-use lib.Dec.{eqb, leb}
-use lib.ListN.{length, take, drop, get_or, replicate, length-map, length-drop}
+use lib.ListN.{length, drop, get_or}
 use lib.Seq.{take_at, drop_at}
 use lib.IntN.{ℤ, pos}
 use Rattle.weighting.specs.Order.{IsBest}
@@ -19,8 +16,7 @@ use Rattle.pattern.specs.declared.Pattern.{Pattern}
 use Rattle.pattern.specs.declared.Refusal.{Refusal}
 use Rattle.pattern.specs.Clocks.{Clocks}
 use Rattle.pattern.specs.Cells.{cells_needed}
-use Rattle.record.specs.Reading.{Sample, value_of, values_of, readings, read_sound, flag_of, flags_of}
-use Rattle.record.proofs.ReadingLaws.{readings-append, readings_own, read_own, read-append, read_set, ones_set}
+use Rattle.pattern.specs.Distance.{Sample}
 use Rattle.pattern.proofs.SoundLaws.{parts}
 use Rattle.walks.specs.Tables.{Table, next}
 use Rattle.walks.proofs.TableBest.{table_best}
@@ -29,17 +25,17 @@ use Rattle.book.specs.Automaton.{same_clocks, held_automaton}
 use Rattle.monitor.specs.declared.State.{State}
 use Rattle.monitor.specs.Cells.{state_at, index_of, cell_states, held_by, written}
 use Rattle.monitor.specs.Tick.{ticks_later, report_of}
-use Rattle.monitor.specs.State.{last_sample, state_sound, piece_later}
+use Rattle.monitor.specs.State.{last_sample, piece_later}
 use Rattle.monitor.specs.Open.{unless_refused}
-use Rattle.monitor.specs.Feed.{Call, sample_of, feed_refusal, piece_view, table_after, report_after, feed_state, feed_first, feed_second, feed_scores, feed_lengths}
+use Rattle.monitor.specs.Feed.{Call, feed_refusal, piece_view, table_after, report_after, feed_state, feed_first, feed_second, feed_scores, feed_lengths}
 use Rattle.monitor.specs.Demand.{BestAmong, NoneAmong}
 use Rattle.monitor.specs.Between.{Aside}
-use Rattle.monitor.specs.Lent.{CellsSayWorths, sample_before, call_view, Reached, EndsThere, FedFrom, LentTablesFed}
+use Rattle.monitor.specs.Lent.{CellsSayWorths, values_before, call_view, Reached, EndsThere, FedFrom, LentTablesFed}
 use Rattle.monitor.proofs.Numbers.{made-front}
 use Rattle.monitor.proofs.CellLaws.{closed, celled_at, in_cells}
 use Rattle.monitor.proofs.Sizes.{tick_sized, lent_sized}
 use Rattle.monitor.proofs.Written.{aside-written, cell-is, only-cells_hold, held-within, held_low}
-use Rattle.monitor.proofs.Accepted.{Fed, fed, sample-long, sample-held, sample-fine, state-read}
+use Rattle.monitor.proofs.Accepted.{Fed, fed}
 use Rattle.monitor.proofs.Reports.{score-told, length-told, scores-rest, lengths-rest, scores_are_long, lengths_are_long, best_said}
 
 pub cells_say_worths : CellsSayWorths
@@ -50,105 +46,70 @@ cells_say_worths p sound t =
     }
 
 -- the view of the piece's ticks, by what each is compared with
-view_is : (p : Pattern) (s : State) (x : Sample) (i : ℕ) → piece_view p (last_sample p s) x i ≡ call_view p s x i
+view_is : (p : Pattern) (s : State) (vs : Sample) (i : ℕ) → piece_view p (last_sample p s) vs i ≡ call_view p s vs i
 unfolding piece_view
-view_is p s x zero = refl
-view_is p s x (suc i) = refl
+view_is p s vs zero = refl
+view_is p s vs (suc i) = refl
 
 module _ (p : Pattern) (s : State) (t u : List ℤ) (c : Call) (given : feed_refusal p s t u c ≡ none) where
-  abbrev x : Sample
-  x = sample_of c
+  abbrev vs : Sample
+  vs = c.values
 
-  ok : Fed p s t (length u) c.duration c.values c.read (length c.scores) (length c.lengths)
-  ok = fed p s t (length u) c.duration c.values c.read (length c.scores) (length c.lengths) given
+  ok : Fed p s t (length u) c.duration vs (length c.scores) (length c.lengths)
+  ok = fed p s t (length u) c.duration vs (length c.scores) (length c.lengths) given
 
   -- the table n ticks into the call
   abbrev table : ℕ → Table ℤ Clocks
-  table n = ticks_later p (call_view p s x) (held_by p t) n
+  table n = ticks_later p (call_view p s vs) (held_by p t) n
 
-  table_is : (n : ℕ) → table_after p s t x n ≡ table n
+  table_is : (n : ℕ) → table_after p s t vs n ≡ table n
   table_is zero = refl
-  table_is (suc n) = λ i. next (weighting_of p.weighing) (held_automaton p) same_clocks p.high (cell_states p) (view_is p s x n i) (table_is n i)
+  table_is (suc n) = λ i. next (weighting_of p.weighing) (held_automaton p) same_clocks p.high (cell_states p) (view_is p s vs n i) (table_is n i)
 
   -- ---- cells
 
-  no_mark_lem : (n i : ℕ) → i < cells_needed p → NoMark (table n (state_at p i))
-  no_mark_lem n i l e =
+  no_mark : (n i : ℕ) → i < cells_needed p → NoMark (table n (state_at p i))
+  no_mark n i l e =
       let a = celled_at p ok.sound i l in
       let low = a.low in
       let high = (parts p ok.sound).short_high in
-      let h = lent_sized p ok.sound (call_view p s x) (λ j f k g q. tick_sized p ok.sound (sample_before p s x j) x (sample-fine p c.duration c.values c.read ok.piece) f k g q)
+      let h = lent_sized p ok.sound (call_view p s vs) (λ j f k g q. tick_sized p ok.sound (values_before p s vs j) vs ok.piece.values f k g q)
       (held_by p t) (held_low p ok.sound t ok.tables.first ok.cells) n (state_at p i) mark (in_cells p ok.sound (state_at p i) a) e in
       small_no_mark mark (omega arith) refl
 
   cell-left : (i : ℕ) → i < cells_needed p → held_in (get_or (feed_first p s t u c) i mark) ≡ table c.duration (state_at p i)
   unfolding written
   cell-left i l =
-      ap (λ (o : Option Refusal). held_in (get_or (unless_refused o (written p (table_after p s t x c.duration) t) t) i mark)) given
-      ∙ ap held_in (made-front (λ j. cell_of (table_after p s t x c.duration (state_at p j))) (cells_needed p) i mark (drop (cells_needed p) t) l)
+      ap (λ (o : Option Refusal). held_in (get_or (unless_refused o (written p (table_after p s t vs c.duration) t) t) i mark)) given
+      ∙ ap held_in (made-front (λ j. cell_of (table_after p s t vs c.duration (state_at p j))) (cells_needed p) i mark (drop (cells_needed p) t) l)
       ∙ ap (λ (U : Table ℤ Clocks). held_in (cell_of (U (state_at p i)))) (table_is c.duration)
-      ∙ held_in-cell_of (table c.duration (state_at p i)) (no_mark_lem c.duration i l)
+      ∙ held_in-cell_of (table c.duration (state_at p i)) (no_mark c.duration i l)
 
-  cell_best : (i : ℕ) → i < cells_needed p → IsBest (weighting_of p.weighing).order (Reached p s t x c.duration (state_at p i)) (held_in (get_or (feed_first p s t u c) i mark))
+  cell_best : (i : ℕ) → i < cells_needed p → IsBest (weighting_of p.weighing).order (Reached p s t vs c.duration (state_at p i)) (held_in (get_or (feed_first p s t u c) i mark))
   cell_best i l =
-      subst (IsBest (weighting_of p.weighing).order (Reached p s t x c.duration (state_at p i))) (sym (cell-left i l))
-      (table_best (weighting_of p.weighing) (held_automaton p) same_clocks (call_view p s x) p.high (cell_states p) (closed p ok.sound) (held_by p t) (held-within p ok.sound t) c.duration (state_at p i))
+      subst (IsBest (weighting_of p.weighing).order (Reached p s t vs c.duration (state_at p i))) (sym (cell-left i l))
+      (table_best (weighting_of p.weighing) (held_automaton p) same_clocks (call_view p s vs) p.high (cell_states p) (closed p ok.sound) (held_by p t) (held-within p ok.sound t) c.duration (state_at p i))
 
   -- ---- reports
 
-  report-is : (i : ℕ) → report_after p s t x i ≡ report_of p (table (i + 1))
+  report-is : (i : ℕ) → report_after p s t vs i ≡ report_of p (table (i + 1))
   report-is i = let e : suc i ≡ i + 1 = omega arith in ap (report_of p) (table_is (suc i)) ∙ ap (λ (n : ℕ). report_of p (table n)) e
 
   report_best : (i : ℕ) → i < c.duration
-      → BestAmong p (EndsThere p s t x (i + 1)) (get_or (feed_scores p s t u c) i (pos 0)) (get_or (feed_lengths p s t u c) i 0)
-      ⊎ NoneAmong (EndsThere p s t x (i + 1)) (get_or (feed_scores p s t u c) i (pos 0)) (get_or (feed_lengths p s t u c) i 0)
+      → BestAmong p (EndsThere p s t vs (i + 1)) (get_or (feed_scores p s t u c) i (pos 0)) (get_or (feed_lengths p s t u c) i 0)
+      ⊎ NoneAmong (EndsThere p s t vs (i + 1)) (get_or (feed_scores p s t u c) i (pos 0)) (get_or (feed_lengths p s t u c) i 0)
   report_best i l =
       rw (score-told p s t u c given i l, length-told p s t u c given i l, report-is i)
-      (best_said p (EndsThere p s t x (i + 1)) (report_of p (table (i + 1)))
-      (reports-reached (weighting_of p.weighing) (held_automaton p) same_clocks (call_view p s x) p.high (cell_states p) (closed p ok.sound) (held_by p t) (held-within p ok.sound t) p.low (i + 1)))
+      (best_said p (EndsThere p s t vs (i + 1)) (report_of p (table (i + 1)))
+      (reports-reached (weighting_of p.weighing) (held_automaton p) same_clocks (call_view p s vs) p.high (cell_states p) (closed p ok.sound) (held_by p t) (held-within p ok.sound t) p.low (i + 1)))
 
   -- ---- the rest of what was lent
 
   aside-left : Aside p t u (feed_first p s t u c) (feed_second p s t u c)
-  aside-left = rw given (aside-written p ok.sound t u (table_after p s t x c.duration) t u ok.tables.first ok.tables.second refl refl refl refl)
+  aside-left = rw given (aside-written p ok.sound t u (table_after p s t vs c.duration) t u ok.tables.first ok.tables.second refl refl refl refl)
 
-  state-left : feed_state p s t u c ≡ piece_later p s c.duration x
-  state-left = ap (λ (o : Option Refusal). unless_refused o (piece_later p s c.duration x) s) given
-
-  long : length x ≡ p.channels
-  long = sample-long p c.duration c.values c.read ok.piece
-
-  -- the readings of what stands for the sample are the sample
-  last-left : last_sample p (piece_later p s c.duration x) ≡ x
-  last-left =
-      ap (take p.channels) (readings-append (values_of x) (drop p.channels s.last) (flags_of x) (replicate (8 - p.channels) 1) (length-map x flag_of ∙ sym (length-map x value_of))
-      ∙ ap (λ (y : Sample). y ++ readings (drop p.channels s.last) (replicate (8 - p.channels) 1)) (readings_own x))
-      ∙ take_at x (readings (drop p.channels s.last) (replicate (8 - p.channels) 1)) p.channels long
-
-  values-long : length (values_of x) ≡ p.channels
-  values-long = length-map x value_of ∙ long
-
-  held : values_of x ≡ c.values
-  held = sample-held p c.duration c.values c.read ok.piece
-
-  flags_long : length (flags_of x) ≡ p.channels
-  flags_long = length-map x flag_of ∙ long
-
-  -- the state after the piece is sound again
-  sound-left : length s.last ≡ 8 → state_sound p (piece_later p s c.duration x) ≡ true
-  unfolding state_sound
-  sound-left eight =
-      let n = p.channels in
-      let rest = drop n s.last in
-      let d = length-drop n s.last in
-      let few : leb (s.ticks + c.duration) 2147483647 ≡ true = le-leb (s.ticks + c.duration) 2147483647 ok.room in
-      let some-ticks : eqb (s.ticks + c.duration) 0 ≡ false = ne_eqb (s.ticks + c.duration) 0 (λ e. let l = ok.piece.low in omega arith) in
-      let front : take n (values_of x ++ rest) ≡ values_of x = take_at (values_of x) rest n values-long in
-      let back : drop n (values_of x ++ rest) ≡ rest = drop_at (values_of x) rest n values-long in
-      let ones : drop n (flags_of x ++ replicate (8 - n) 1) ≡ replicate (8 - n) 1 = drop_at (flags_of x) (replicate (8 - n) 1) n flags_long in
-      let lent : read_sound (values_of x ++ rest) (flags_of x ++ replicate (8 - n) 1) ≡ true =
-      read-append (values_of x) rest (flags_of x) (replicate (8 - n) 1) (read_own x) (read_set rest (8 - n) (omega arith)) in
-      rw (few, front, sample-fine p c.duration c.values c.read ok.piece, back, (state-read p s ok.state).zeros, some-ticks, lent, ones, ones_set (8 - n))
+  state-left : feed_state p s t u c ≡ piece_later p s c.duration vs
+  state-left = ap (λ (o : Option Refusal). unless_refused o (piece_later p s c.duration vs) s) given
 
   left : FedFrom p s t u c
   left =
@@ -161,11 +122,8 @@ module _ (p : Pattern) (s : State) (t u : List ℤ) (c : Call) (given : feed_ref
         lengths_long = lengths_are_long p s t u c given ok.lengths;
         aside = aside-left;
         ticks = ap (λ (q : State). q.ticks) state-left;
-        values = ap (λ (q : State). take p.channels q.last) state-left ∙ take_at (values_of x) (drop p.channels s.last) p.channels values-long ∙ held;
-        last = ap (last_sample p) state-left ∙ last-left;
-        unused = ap (λ (q : State). drop p.channels q.last) state-left ∙ drop_at (values_of x) (drop p.channels s.last) p.channels values-long;
-        flags = ap (λ (q : State). q.read) state-left;
-        sound = λ eight. ap (state_sound p) state-left ∙ sound-left eight;
+        last_values = ap (last_sample p) state-left ∙ take_at vs (drop p.channels s.last) p.channels ok.piece.count;
+        unused = ap (λ (q : State). drop p.channels q.last) state-left ∙ drop_at vs (drop p.channels s.last) p.channels ok.piece.count;
       }
 
 pub lent-tables_fed : LentTablesFed

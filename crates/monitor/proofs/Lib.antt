@@ -1,6 +1,6 @@
 -- Numbers in a row; the cells of a table; how large worths come; what is written is held; long pieces; what an accepted call
 -- may go by, and its reports; any lent table; the ticks of a piece in a book; what holds between calls; answers in numbers;
--- demand 3; what the state and the cells hold; feeding where nothing is lost.
+-- demand 3; what the state and the cells hold.
 pub mod Numbers
 pub mod CellLaws
 pub mod Sizes
@@ -14,4 +14,3 @@ pub mod Between
 pub mod Answers
 pub mod Demand
 pub mod CellsHold
-pub mod Lost

@@ -7,7 +7,7 @@ use mathlib.Core.Bool.{Bool}
 use lib.ListN.{length, replicate, get_or-replicate, get_or-append}
 use lib.Seq.{get_or-append-add}
 use Rattle.pattern.specs.declared.Pattern.{Pattern}
-use Rattle.record.specs.Reading.{Sample}
+use Rattle.pattern.specs.Distance.{Sample}
 use Rattle.record.specs.Record.{Book}
 use Rattle.book.specs.View.{sample_at, before, view_of}
 use Rattle.monitor.specs.Feed.{piece_view}

@@ -4,7 +4,7 @@ use Prim.Native.Nat.{ℕ, suc, ◌+◌, ◌*◌, ◌≤◌, ◌<◌}
 use native.Mathlib.Omega.{arith}
 use mathlib.Core.Path.{◌≡◌, refl, ap, subst}
 use mathlib.Core.List.{Memᴰ}
-use mathlib.Core.Option.{some}
+use mathlib.Core.Option.{some, some-injective}
 use mathlib.Core.Bool.{Bool, true, false, not, cond}
 use borrow.Author.Tests.{ltb-true, ltb-false}
 use lib.Dec.{ltb}
@@ -18,10 +18,9 @@ use Rattle.pattern.specs.InUse.{place_at}
 use Rattle.pattern.specs.Slots.{all}
 use Rattle.pattern.specs.Sound.{sound_of}
 use Rattle.pattern.specs.Clocks.{Clocks}
-use Rattle.record.specs.Reading.{Sample, values_of}
+use Rattle.pattern.specs.Distance.{Sample, place_worth}
 use Rattle.record.specs.Record.{Book, value_in_range}
 use Rattle.record.specs.Joined.{agrees}
-use Rattle.record.specs.Worth.{worth_in}
 use Rattle.record.proofs.PlaceLaws.{place-at-sound, margin-place-size, place-size, testless_worth, past_testless}
 use Rattle.walks.specs.Automaton.{State, View}
 use Rattle.walks.specs.Tables.{Table}
@@ -29,7 +28,6 @@ use Rattle.walks.proofs.States.{opening-holds}
 use Rattle.walks.proofs.Kept.{kept}
 use Rattle.book.specs.View.{counts, gain_by, gain_in, tick_view, sample_at, before, view_of}
 use Rattle.book.specs.Automaton.{same_clocks, held_automaton}
-use Rattle.book.proofs.StayGains.{gained}
 use Rattle.monitor.specs.Cells.{cell_states}
 use Rattle.monitor.specs.Tick.{open_table, ticks_later}
 
@@ -59,32 +57,32 @@ sized_low Sum l z h k = omega arith
 -- ---- the gains of a book's ticks
 
 module _ (p : Pattern) (sound : sound_of p ≡ true) where
-  place_sized : (w : Weighing) (k : ℕ) (x : Sample) → all value_in_range (values_of x) ≡ true → GainSized w (worth_in w (place_at p k) x)
+  place_sized : (w : Weighing) (k : ℕ) (x : Sample) → all value_in_range x ≡ true → GainSized w (place_worth w (place_at p k) x)
   place_sized w k x h = by (ltb k p.placecount) refl
     where
       unit-gain : (w : Weighing) → GainSized w (weighting_of w).unit
       unit-gain Margin = omega arith
       unit-gain Sum = omega arith
 
-      here : (w : Weighing) → k < p.placecount → GainSized w (worth_in w (place_at p k) x)
-      here Margin l = margin-place-size p.channels (place_at p k) (values_of x) (place-at-sound p k sound l) h
-      here Sum l = place-size p.channels (place_at p k) (values_of x) (place-at-sound p k sound l) h Sum
+      here : (w : Weighing) → k < p.placecount → GainSized w (place_worth w (place_at p k) x)
+      here Margin l = margin-place-size p.channels (place_at p k) x (place-at-sound p k sound l) h
+      here Sum l = place-size p.channels (place_at p k) x (place-at-sound p k sound l) h Sum
 
-      by : (t : Bool) → ltb k p.placecount ≡ t → GainSized w (worth_in w (place_at p k) x)
+      by : (t : Bool) → ltb k p.placecount ≡ t → GainSized w (place_worth w (place_at p k) x)
       by true e = here w (ltb-true _ _ e)
-      by false e = rw (testless_worth w (place_at p k) (past_testless p sound k (ltb-false _ _ e)) (values_of x)) (unit-gain w)
+      by false e = rw (testless_worth w (place_at p k) (past_testless p sound k (ltb-false _ _ e)) x) (unit-gain w)
 
-  pub gain_sized : (w : Weighing) (k : ℕ) (x : Sample) (t : Bool) → all value_in_range (values_of x) ≡ true → GainSized w (cond t (worth_in w (place_at p k) x) (weighting_of w).unit)
+  pub gain_sized : (w : Weighing) (k : ℕ) (x : Sample) (t : Bool) → all value_in_range x ≡ true → GainSized w (cond t (place_worth w (place_at p k) x) (weighting_of w).unit)
   gain_sized w k x true h = place_sized w k x h
   gain_sized Margin k x false h = omega arith
   gain_sized Sum k x false h = omega arith
 
-  pub gain-in_sized : (last x : Sample) → all value_in_range (values_of x) ≡ true → (f : Bool) (k : ℕ) → GainSized p.weighing (gain_in p.weighing (place_at p k) last x f)
+  pub gain-in_sized : (last x : Sample) → all value_in_range x ≡ true → (f : Bool) (k : ℕ) → GainSized p.weighing (gain_in p.weighing (place_at p k) last x f)
   unfolding gain_by
   gain-in_sized last x fine f k = gain_sized p.weighing k x (counts p.weighing (not (agrees (place_at p k) last x)) f) fine
 
-  pub tick_sized : (last x : Sample) → all value_in_range (values_of x) ≡ true → (f : Bool) (k : ℕ) (g : ℤ) → tick_view p last x f k ≡ some g → GainSized p.weighing g
-  tick_sized last x fine f k g q = subst (GainSized p.weighing) (gained p last x f k g q).is (gain-in_sized last x fine f k)
+  pub tick_sized : (last x : Sample) → all value_in_range x ≡ true → (f : Bool) (k : ℕ) (g : ℤ) → tick_view p last x f k ≡ some g → GainSized p.weighing g
+  tick_sized last x fine f k g q = subst (GainSized p.weighing) (some-injective _ g q) (gain-in_sized last x fine f k)
 
   open_sized : (s : State Clocks) (z : ℤ) → open_table p s ≡ some z → Sized p.weighing s.len z
   open_sized s z e =
@@ -93,7 +91,7 @@ module _ (p : Pattern) (sound : sound_of p ≡ true) where
       rw (l, h.2) (unit_sized p.weighing)
 
   -- every cell of a table that ticks of such samples made from the opening
-  pub table_sized : (b : Book) → ((t : ℕ) → all value_in_range (values_of (sample_at b t)) ≡ true) → (n : ℕ) (s : State Clocks) (z : ℤ) → Memᴰ s (cell_states p)
+  pub table_sized : (b : Book) → ((t : ℕ) → all value_in_range (sample_at b t) ≡ true) → (n : ℕ) (s : State Clocks) (z : ℤ) → Memᴰ s (cell_states p)
       → ticks_later p (view_of p b) (open_table p) n s ≡ some z → Sized p.weighing s.len z
   table_sized b fine n s z m e =
       kept (weighting_of p.weighing) (held_automaton p) same_clocks p.high (cell_states p)

@@ -9,7 +9,7 @@ use Rattle.weighting.specs.Weightings.{weighting_of}
 use Rattle.pattern.specs.declared.Pattern.{Pattern}
 use Rattle.pattern.specs.Sound.{sound_of}
 use Rattle.pattern.specs.Clocks.{Clocks}
-use Rattle.record.specs.Reading.{Sample}
+use Rattle.pattern.specs.Distance.{Sample}
 use Rattle.walks.specs.Automaton.{State}
 use Rattle.walks.specs.Tables.{Table}
 use Rattle.walks.proofs.Still.{still, still-reports}

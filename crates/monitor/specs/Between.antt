@@ -9,7 +9,6 @@ use Rattle.weighting.specs.Cell.{mark, held_in}
 use Rattle.pattern.specs.declared.Pattern.{Pattern}
 use Rattle.pattern.specs.Clocks.{Clocks}
 use Rattle.pattern.specs.Cells.{cells_needed}
-use Rattle.record.specs.Reading.{values_of, flags_of}
 use Rattle.record.specs.Record.{Book}
 use Rattle.walks.specs.Automaton.{State as RunState}
 use Rattle.walks.specs.Holding.{hold_state}
@@ -46,12 +45,10 @@ pub record TablesHold (p : Pattern) (lentFirst lentSecond : List ℤ) (b : Book)
   pub aside : Aside p lentFirst lentSecond first second
 
 -- The state: "ticks so far and the last values (zeros before the first piece and in unused channels)". The ticks are the
--- book's, and the last values and their flags those of its last sample (document 02, R-7). Before the first tick `before` is
--- zeros that were read, so there all are zeros, and all flags 1.
+-- book's, and the last values its last sample; before the first tick `before` is zeros, so there they are zeros throughout.
 pub record StateHolds (p : Pattern) (b : Book) (s : State) : Type 0 where
   pub ticks : s.ticks ≡ length b
-  pub last : s.last ≡ values_of (before p b (length b)) ++ replicate (8 - p.channels) (pos 0)
-  pub read : s.read ≡ flags_of (before p b (length b)) ++ replicate (8 - p.channels) 1
+  pub last : s.last ≡ before p b (length b) ++ replicate (8 - p.channels) (pos 0)
 
 module _ (p : Pattern) (lentFirst lentSecond : List ℤ) where
   -- After a list of calls, each going on from what the one before it left.

@@ -13,7 +13,7 @@ use Rattle.book.specs.PricedRun.{PricedRun}
 use Rattle.monitor.specs.declared.State.{State}
 use Rattle.monitor.specs.declared.Answer.TheVariants.{Done, Refused}
 use Rattle.monitor.specs.Open.{answer_number, unless_refused, first_cause, open_refusal, open_state, open_first, open_second}
-use Rattle.monitor.specs.Feed.{Call, sample_of, piece_broken, too_many_ticks, reports_too_short, feed_answer, feed_state, feed_first, feed_second, feed_scores, feed_lengths}
+use Rattle.monitor.specs.Feed.{Call, piece_broken, too_many_ticks, reports_too_short, feed_answer, feed_state, feed_first, feed_second, feed_scores, feed_lengths}
 
 -- ---- the book, "kept from the calls' arguments alone"
 
@@ -22,14 +22,14 @@ use Rattle.monitor.specs.Feed.{Call, sample_of, piece_broken, too_many_ticks, re
 unfoldable pub refusal_by : Pattern → Book → Call → Option Refusal
 refusal_by p b c =
     first_cause
-    ((piece_broken p c.duration c.values c.read, BrokenRecord)
+    ((piece_broken p c.duration c.values, BrokenRecord)
     ∷ (too_many_ticks (length b) c.duration, TooManyTicks)
     ∷ (reports_too_short (length c.scores) (length c.lengths) c.duration, OutputTooShort)
     ∷ [])
 
--- An accepted feed adds its sample to the book, once for each tick of its duration. A refused one adds nothing.
+-- "An accepted feed adds its values to the book once for each tick of its duration; a refused one adds nothing."
 abbrev pub book_after : Pattern → Book → Call → Book
-book_after p b c = unless_refused (refusal_by p b c) (b ++ replicate c.duration (sample_of c)) b
+book_after p b c = unless_refused (refusal_by p b c) (b ++ replicate c.duration c.values) b
 
 -- ---- a report
 

@@ -1,4 +1,4 @@
--- Feeding a piece (document 01, 'Feed a piece'; document 02, R-7): what it answers, and what the state, both tables and both report slices
+-- Feeding a piece (document 01, 'Feed a piece'): what it answers, and what the state, both tables and both report slices
 -- are afterwards, for every content of what is lent.
 use Rattle.std.specs.Prelude.{ℕ, zero, suc, ◌+◌, ◌≡◌, List, [], ◌∷◌, ◌++◌, map, Bool, not, cond, ◌&&◌, ◌||◌, eqb, leb, ltb, length, take, drop, ℤ, nat_abs}
 use Rattle.std.proofs.Math.Option.{Option}
@@ -11,8 +11,7 @@ use Rattle.pattern.specs.Slots.{all, within}
 use Rattle.pattern.specs.Sound.{sound_of}
 use Rattle.pattern.specs.Clocks.{Clocks}
 use Rattle.pattern.specs.Cells.{cells_needed}
-use Rattle.pattern.specs.Distance.{Values}
-use Rattle.record.specs.Reading.{Sample, readings, read_sound}
+use Rattle.pattern.specs.Distance.{Sample}
 use Rattle.record.specs.Record.{value_in_range}
 use Rattle.walks.specs.Automaton.{View}
 use Rattle.walks.specs.Tables.{Table}
@@ -27,21 +26,15 @@ use Rattle.monitor.specs.Open.{answer_of, answer_number, unless_refused, first_c
 -- A piece and two report slices: what a call brings beside the pattern, the state and the tables.
 pub record Call : Type 0 where
   pub duration : ℕ
-  pub values : Values
-  pub read : List ℕ
+  pub values : Sample
   pub scores : List ℤ
   pub lengths : List ℕ
 
--- The piece's sample.
-abbrev pub sample_of : Call → Sample
-sample_of c = readings c.values c.read
-
 -- ---- the causes
 
--- "8: duration 0 or over 65,535, a wrong count of values, a value out of range"; also another count of flags, and a value other
--- than 0 in a channel not read (document 02, R-7)
-unfoldable pub piece_broken : Pattern → (duration : ℕ) → Values → (flags : List ℕ) → Bool
-piece_broken p d vs fs = not (within 1 65_535 d && eqb (length vs) p.channels && all value_in_range vs && read_sound vs fs)
+-- "8: duration 0 or over 65,535, a wrong count of values, a value out of range"
+unfoldable pub piece_broken : Pattern → (duration : ℕ) → Sample → Bool
+piece_broken p d vs = not (within 1 65_535 d && eqb (length vs) p.channels && all value_in_range vs)
 
 -- "13: total ticks would pass 2,147,483,647"
 abbrev pub too_many_ticks : (ticks duration : ℕ) → Bool
@@ -59,13 +52,13 @@ abbrev pub reports_too_short : (scores lengths duration : ℕ) → Bool
 reports_too_short scores lengths d = ltb scores d || ltb lengths d
 
 -- Checks go in the order written: 7, 12, 11, 8, 13, 14, 6. Of the second table and the report slices only the lengths count.
-unfoldable pub feed_cause : Pattern → State → (first : List ℤ) → (second duration : ℕ) → Values → (flags : List ℕ) → (scores lengths : ℕ) → Option Refusal
-feed_cause p s t second d vs fs scores lengths =
+unfoldable pub feed_cause : Pattern → State → (first : List ℤ) → (second duration : ℕ) → Sample → (scores lengths : ℕ) → Option Refusal
+feed_cause p s t second d vs scores lengths =
     first_cause
     ((not (sound_of p), UnsoundPattern)
     ∷ (not (state_sound p s), BrokenState)
     ∷ (table_too_short p (length t) second, TableTooShort)
-    ∷ (piece_broken p d vs fs, BrokenRecord)
+    ∷ (piece_broken p d vs, BrokenRecord)
     ∷ (too_many_ticks s.ticks d, TooManyTicks)
     ∷ (cells_broken p t, BrokenCell)
     ∷ (reports_too_short scores lengths d, OutputTooShort)
@@ -73,19 +66,19 @@ feed_cause p s t second d vs fs scores lengths =
 
 abbrev pub feed_refusal : Pattern → State → (first second : List ℤ) → Call → Option Refusal
 feed_refusal p s t u c =
-    feed_cause p s t (length u) c.duration c.values c.read (length c.scores) (length c.lengths)
+    feed_cause p s t (length u) c.duration c.values (length c.scores) (length c.lengths)
 
 -- ---- the ticks of the piece
 
--- The first tick comes after the last sample before the piece, and may be a new observation in some places and not in others. The
--- later ones come after the piece's own sample, and are none in any place.
-unfoldable pub piece_view : Pattern → (last now : Sample) → View ℤ
-piece_view p last x zero = tick_view p last x
-piece_view p last x (suc t) = tick_view p x x
+-- The first tick comes after the last values before the piece, and may be a new observation in some places and not in others. The
+-- later ones come after the piece's own values, and are none in any place.
+unfoldable pub piece_view : Pattern → (last values : Sample) → View ℤ
+piece_view p last vs zero = tick_view p last vs
+piece_view p last vs (suc t) = tick_view p vs vs
 
--- The table n ticks into the piece. The last sample before it is the state's, at ticks 0 too.
+-- The table n ticks into the piece. The last values before it are the state's, at ticks 0 too.
 abbrev pub table_after : Pattern → State → (first : List ℤ) → Sample → ℕ → Table ℤ Clocks
-table_after p s t x n = ticks_later p (piece_view p (last_sample p s) x) (held_by p t) n
+table_after p s t vs n = ticks_later p (piece_view p (last_sample p s) vs) (held_by p t) n
 
 -- ---- the call: what it answers, and what the state and both tables are afterwards; at a refusal as they were
 
@@ -93,29 +86,29 @@ abbrev pub feed_answer : Pattern → State → (first second : List ℤ) → Cal
 feed_answer p s t u c = answer_of (feed_refusal p s t u c)
 
 abbrev pub feed_state : Pattern → State → (first second : List ℤ) → Call → State
-feed_state p s t u c = unless_refused (feed_refusal p s t u c) (piece_later p s c.duration (sample_of c)) s
+feed_state p s t u c = unless_refused (feed_refusal p s t u c) (piece_later p s c.duration c.values) s
 
 abbrev pub feed_first : Pattern → State → (first second : List ℤ) → Call → List ℤ
 feed_first p s t u c =
-    unless_refused (feed_refusal p s t u c) (written p (table_after p s t (sample_of c) c.duration) t) t
+    unless_refused (feed_refusal p s t u c) (written p (table_after p s t c.values c.duration) t) t
 
 abbrev pub feed_second : Pattern → State → (first second : List ℤ) → Call → List ℤ
 feed_second p s t u c = unless_refused (feed_refusal p s t u c) (marks p u) u
 
 -- "Feeding a piece writes per tick a score and a length ..; later places of both report slices are untouched."
 abbrev pub report_after : Pattern → State → (first : List ℤ) → Sample → (tick : ℕ) → Option (ℤ × ℕ)
-report_after p s t x i = report_of p (table_after p s t x (suc i))
+report_after p s t vs i = report_of p (table_after p s t vs (suc i))
 
 abbrev pub feed_scores : Pattern → State → (first second : List ℤ) → Call → List ℤ
 feed_scores p s t u c =
     unless_refused (feed_refusal p s t u c)
-    (map (λ i. score_in (report_after p s t (sample_of c) i)) (up_to c.duration) ++ drop c.duration c.scores)
+    (map (λ i. score_in (report_after p s t c.values i)) (up_to c.duration) ++ drop c.duration c.scores)
     c.scores
 
 abbrev pub feed_lengths : Pattern → State → (first second : List ℤ) → Call → List ℕ
 feed_lengths p s t u c =
     unless_refused (feed_refusal p s t u c)
-    (map (λ i. length_in (report_after p s t (sample_of c) i)) (up_to c.duration) ++ drop c.duration c.lengths)
+    (map (λ i. length_in (report_after p s t c.values i)) (up_to c.duration) ++ drop c.duration c.lengths)
     c.lengths
 
 -- What is due, in document 01's numbers.
@@ -124,7 +117,7 @@ feed_number p s t u c =
     cond (not (sound_of p)) 7
     (cond (not (state_sound p s)) 12
     (cond (table_too_short p (length t) (length u)) 11
-    (cond (piece_broken p c.duration c.values c.read) 8
+    (cond (piece_broken p c.duration c.values) 8
     (cond (too_many_ticks s.ticks c.duration) 13
     (cond (cells_broken p t) 14
     (cond (reports_too_short (length c.scores) (length c.lengths) c.duration) 6 0))))))

@@ -5,7 +5,7 @@
 use Rattle.std.specs.Prelude.{ℕ, ◌+◌, ◌≡◌, true, List, ℤ}
 use Rattle.pattern.specs.declared.Pattern.{Pattern}
 use Rattle.pattern.specs.Sound.{sound_of}
-use Rattle.record.specs.Reading.{Sample}
+use Rattle.pattern.specs.Distance.{Sample}
 use Rattle.monitor.specs.Cells.{held_by, written}
 use Rattle.monitor.specs.Tick.{ticks_later, report_of}
 use Rattle.monitor.specs.Feed.{piece_view}
@@ -13,13 +13,13 @@ use Rattle.monitor.specs.Feed.{piece_view}
 -- 1. No cell changes after high + 1 ticks of a piece.
 abbrev pub PieceStill : Type 0
 PieceStill =
-    (p : Pattern) → sound_of p ≡ true → (last x : Sample) (t : List ℤ) (n : ℕ)
-    → written p (ticks_later p (piece_view p last x) (held_by p t) (p.high + 1 + n)) t
-    ≡ written p (ticks_later p (piece_view p last x) (held_by p t) (p.high + 1)) t
+    (p : Pattern) → sound_of p ≡ true → (last vs : Sample) (t : List ℤ) (n : ℕ)
+    → written p (ticks_later p (piece_view p last vs) (held_by p t) (p.high + 1 + n)) t
+    ≡ written p (ticks_later p (piece_view p last vs) (held_by p t) (p.high + 1)) t
 
 -- 2. Nor does the report.
 abbrev pub PieceReports : Type 0
 PieceReports =
-    (p : Pattern) → sound_of p ≡ true → (last x : Sample) (t : List ℤ) (n : ℕ)
-    → report_of p (ticks_later p (piece_view p last x) (held_by p t) (p.high + 1 + n))
-    ≡ report_of p (ticks_later p (piece_view p last x) (held_by p t) (p.high + 1))
+    (p : Pattern) → sound_of p ≡ true → (last vs : Sample) (t : List ℤ) (n : ℕ)
+    → report_of p (ticks_later p (piece_view p last vs) (held_by p t) (p.high + 1 + n))
+    ≡ report_of p (ticks_later p (piece_view p last vs) (held_by p t) (p.high + 1))

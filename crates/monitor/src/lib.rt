@@ -1,14 +1,12 @@
 // The monitor's state and what its calls answer. Opening and feeding are defined in specs/; the crate feed has the code.
 use pattern::Refusal;
 
-// What the monitor keeps between calls beside its tables: ticks so far; the last values, zeros before the first piece and in
-// unused channels; and a flag for each, 0 where the channel was not read, any other number where it was. Opening and feeding
-// leave 0 or 1, and 1 before the first piece and in unused channels.
+// What the monitor keeps between calls beside its tables: ticks so far, and the last values, zeros before the first piece
+// and in unused channels.
 #[derive(Drop)]
 pub struct State {
     pub ticks: u32,
     pub last: [i32; 8],
-    pub read: [u8; 8],
 }
 
 // A call is done, or refused for a cause.

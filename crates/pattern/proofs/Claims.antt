@@ -27,7 +27,7 @@ use Rattle.pattern.specs.declared.Pattern.{Pattern}
 use Rattle.pattern.specs.InUse.{guards_of, edges_of}
 use Rattle.pattern.specs.Sound.{bounded, banded, bound_in_range, band_in_range, test_in_range, sound_of}
 use Rattle.pattern.specs.Clocks.{on_side}
-use Rattle.pattern.specs.Distance.{value_at, distance_from, band_distance, distance_in, distances_of, place_worth, DistancesInRange, BandSign, BandIsTwoTests, MarginIsLeast}
+use Rattle.pattern.specs.Distance.{reading_of, distance_from, band_distance, distance_in, distances_of, place_worth, DistancesInRange, BandSign, BandIsTwoTests, MarginIsLeast}
 use Rattle.pattern.specs.declared.Counted.TheVariants.{Cells, Refused}
 use Rattle.pattern.specs.declared.Refusal.TheVariants.{UnsoundPattern}
 use Rattle.pattern.specs.Cells.{bounds_on, largest, ceiling_of, clock_cells, cells_for, cells_needed, cells_of, counted_as, GuardsSeeHeldClocks, SomeCell, CellsNumbers}
@@ -125,7 +125,7 @@ unfolding place_worth distances_of combine_from
 band_is-two-tests l m before after c low high p q s =
     rw (p, q, map-append (distance_in s) before (banded c low high ∷ after), map-append (distance_in s) before (bounded AtLeast c low ∷ bounded AtMost c high ∷ after))
     (combine_from-append margin margin.unit (map (distance_in s) before) (distance_in s (banded c low high) ∷ map (distance_in s) after)
-    ∙ ap (λ (z : ℤ). combine_from margin z (map (distance_in s) after)) (sym (min_assoc (combine_all margin (map (distance_in s) before)) (value_at s c -ℤ low) (high -ℤ value_at s c)))
+    ∙ ap (λ (z : ℤ). combine_from margin z (map (distance_in s) after)) (sym (min_assoc (combine_all margin (map (distance_in s) before)) (reading_of s c -ℤ low) (high -ℤ reading_of s c)))
     ∙ sym (combine_from-append margin margin.unit (map (distance_in s) before) (distance_in s (bounded AtLeast c low) ∷ distance_in s (bounded AtMost c high) ∷ map (distance_in s) after)))
 
 -- ---- margins

@@ -17,7 +17,7 @@ use Rattle.weighting.proofs.Worths.{combine_all_snoc}
 use Rattle.pattern.specs.declared.Sign.{Sign}
 use Rattle.pattern.specs.declared.Sign.TheVariants.{Less, AtMost, More, AtLeast}
 use Rattle.pattern.specs.declared.Test.{Test}
-use Rattle.pattern.specs.Distance.{Values, distance_from, band_distance, distance_of, distance_in}
+use Rattle.pattern.specs.Distance.{Sample, distance_from, band_distance, distance_of, distance_in}
 use Rattle.pattern.proofs.ListLaws.{take_more}
 use Rattle.integers.proofs.Linear.{abs_is, mag_is, sub_is}
 use Rattle.integers.proofs.Ranges.{abs_min}
@@ -70,14 +70,14 @@ distance_size t v p q r = either t.band
 -- ---- a place's worth, test by test
 
 -- the worth of the first i tests
-unfoldable pub worth_to : Weighing → Values → List Test → ℕ → ℤ
+unfoldable pub worth_to : Weighing → Sample → List Test → ℕ → ℤ
 worth_to w s ts i = combine_all (weighting_of w) (map (distance_in s) (take i ts))
 
-pub worth-none : (w : Weighing) (s : Values) (ts : List Test) → (weighting_of w).unit ≡ worth_to w s ts 0
+pub worth-none : (w : Weighing) (s : Sample) (ts : List Test) → (weighting_of w).unit ≡ worth_to w s ts 0
 unfolding worth_to combine_from
 worth-none w s ts = refl
 
-pub worth-more : (w : Weighing) (s : Values) (ts : List Test) (i : ℕ) (d : Test) → i < length ts
+pub worth-more : (w : Weighing) (s : Sample) (ts : List Test) (i : ℕ) (d : Test) → i < length ts
     → (weighting_of w).combine (worth_to w s ts i) (distance_in s (get_or ts i d)) ≡ worth_to w s ts (i + 1)
 unfolding worth_to
 worth-more w s ts i d h =

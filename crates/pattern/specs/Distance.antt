@@ -1,4 +1,4 @@
--- Distances and the worth of values in a place (document 01, 'Record and run'; document 02, R-1).
+-- Distances and the worth of a sample in a place (document 01, 'Record and run'; document 02, R-1).
 use Rattle.std.specs.Prelude.{ℕ, ◌^◌, ◌≤◌, ◌<◌, ◌≡◌, true, cond, ◌&&◌, T, get_or, ℤ, pos, nat_abs, ◌-ℤ◌}
 use mathlib.Core.List.{List, ◌∷◌, ◌++◌, map, Memᴰ}
 use Rattle.std.specs.Int.Signed.{le_z}
@@ -14,13 +14,13 @@ use Rattle.pattern.specs.declared.Place.{Place}
 use Rattle.pattern.specs.Sound.{bounded, banded, test_in_range}
 use Rattle.pattern.specs.InUse.{tests_of}
 
--- One value for each channel.
-abbrev pub Values : Type 0
-Values = List ℤ
+-- A sample is one value for each channel.
+abbrev pub Sample : Type 0
+Sample = List ℤ
 
--- The value of a channel.
-abbrev pub value_at : Values → (channel : ℕ) → ℤ
-value_at vs k = get_or vs k (pos 0)
+-- What a channel reads in a sample.
+abbrev pub reading_of : Sample → (channel : ℕ) → ℤ
+reading_of s k = get_or s k (pos 0)
 
 -- "A test's distance is value - bound for `>` and `>=`, bound - value for `<` and `<=`; it may be negative, and strict
 -- signs measure like the others."
@@ -37,18 +37,18 @@ band_distance l h v = min_z (v -ℤ l) (h -ℤ v)
 abbrev pub distance_of : Test → (value : ℤ) → ℤ
 distance_of t v = cond t.band (band_distance t.bound t.high v) (distance_from t.sign t.bound v)
 
--- A test's distance at such values.
-abbrev pub distance_in : Values → Test → ℤ
-distance_in vs t = distance_of t (value_at vs t.channel)
+-- A test's distance in a sample.
+abbrev pub distance_in : Sample → Test → ℤ
+distance_in s t = distance_of t (reading_of s t.channel)
 
--- The distances of a place's tests.
-unfoldable pub distances_of : Place → Values → List ℤ
-distances_of l vs = map (distance_in vs) (tests_of l)
+-- The distances of a place's tests in a sample.
+unfoldable pub distances_of : Place → Sample → List ℤ
+distances_of l s = map (distance_in s) (tests_of l)
 
--- What one observation of the values is worth in a place: "the least distance over its tests" in margin, and 2,000,001
+-- What one observation of a sample is worth in a place: "the least distance over its tests" in margin, and 2,000,001
 -- without tests; "adds up the distances of all its tests" in sum.
-unfoldable pub place_worth : Weighing → Place → Values → ℤ
-place_worth w l vs = combine_all (weighting_of w) (distances_of l vs)
+unfoldable pub place_worth : Weighing → Place → Sample → ℤ
+place_worth w l s = combine_all (weighting_of w) (distances_of l s)
 
 -- Theorem: values and bounds (a band's ends, too) in document 01's range, -1,000,000 to 1,000,000, are at most 2,000,000
 -- apart, so that 2,000,001 stands above every distance.
@@ -60,9 +60,9 @@ DistancesInRange =
 -- does not show.
 abbrev pub MarginIsLeast : Type 0
 MarginIsLeast =
-    (l : Place) (vs : Values) → ((d : ℤ) → Memᴰ d (distances_of l vs) → nat_abs d ≤ 2_000_000)
-    → (d : ℤ) → Memᴰ d (distances_of l vs)
-    → Memᴰ (place_worth Margin l vs) (distances_of l vs) × T (le_z (place_worth Margin l vs) d)
+    (l : Place) (s : Sample) → ((d : ℤ) → Memᴰ d (distances_of l s) → nat_abs d ≤ 2_000_000)
+    → (d : ℤ) → Memᴰ d (distances_of l s)
+    → Memᴰ (place_worth Margin l s) (distances_of l s) × T (le_z (place_worth Margin l s) d)
 
 -- Theorem: a band's distance is at least 0 exactly if the value lies in the band.
 abbrev pub BandSign : Type 0
@@ -74,10 +74,10 @@ BandIsTwoTests =
     (l m : Place) (before after : List Test) (c : ℕ) (low high : ℤ)
     → tests_of l ≡ before ++ banded c low high ∷ after
     → tests_of m ≡ before ++ bounded AtLeast c low ∷ bounded AtMost c high ∷ after
-    → (vs : Values) → place_worth Margin l vs ≡ place_worth Margin m vs
+    → (s : Sample) → place_worth Margin l s ≡ place_worth Margin m s
 
--- r is the test's distance at the values. Whatever i32 the value and the bounds are, it is below 2^32 in size, and may be
+-- r is the test's distance in the sample. Whatever i32 the value and the bounds are, it is below 2^32 in size, and may be
 -- one less than that.
-pub record Measured (t : Test) (vs : Values) (r : ℤ) : Type 0 where
-  pub is : r ≡ distance_in vs t
+pub record Measured (t : Test) (s : Sample) (r : ℤ) : Type 0 where
+  pub is : r ≡ distance_in s t
   pub size : nat_abs r < 2 ^ 32

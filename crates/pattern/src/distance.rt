@@ -1,6 +1,6 @@
-// A test's distance, and what values are worth in a place.
+// A test's distance, and what a sample is worth in a place.
 ghost use Rattle.std.specs.Prelude.{◌≡◌};
-ghost use Rattle.pattern.specs.Distance.{value_at, distance_from, band_distance, distance_of, place_worth, Measured};
+ghost use Rattle.pattern.specs.Distance.{reading_of, distance_from, band_distance, distance_of, place_worth, Measured};
 
 use super::clocks::in_use;
 use super::{Place, Sign, Test};
@@ -40,31 +40,31 @@ pub fn distance(t: Test, value: i32) -> i64
     }
 }
 
-// The value of the channel; 0 past the end.
-pub fn value_at(values: &[i32], channel: u8) -> i32
-    ensures { result ≡ value_at values.now channel }
+// What the channel reads; 0 past the sample's end.
+pub fn reading(sample: &[i32], channel: u8) -> i32
+    ensures { result ≡ reading_of sample.now channel }
 {
     let k = channel as usize;
-    if k < values.len() { values[k] } else { 0 }
+    if k < sample.len() { sample[k] } else { 0 }
 }
 
-// One test's distance at the values, and its size, which any i32 value and bound keep.
-pub fn distance_in(t: Test, values: &[i32]) -> i64
-    ensures { Measured t values.now result }
+// One test's distance in a sample, and its size, which any i32 value and bound keep.
+pub fn distance_in(t: Test, sample: &[i32]) -> i64
+    ensures { Measured t sample.now result }
 {
-    distance(t, value_at(values, t.channel))
+    distance(t, reading(sample, t.channel))
 }
 
-// What one observation of the values is worth in the place.
-pub fn place_worth(w: Weighing, l: Place, values: &[i32]) -> i64
-    ensures { result ≡ place_worth w l values.now }
+// What one observation of the sample is worth in the place.
+pub fn place_worth(w: Weighing, l: Place, sample: &[i32]) -> i64
+    ensures { result ≡ place_worth w l sample.now }
 {
     let n = in_use(l.count, 4);
     let mut worth = unit(w);
     let mut i: usize = 0;
     while i < n {
         let t = l.tests[i];
-        worth = combine(w, worth, distance_in(t, values));
+        worth = combine(w, worth, distance_in(t, sample));
         i += 1;
     }
     worth

@@ -5,16 +5,15 @@ use mathlib.Core.Option.{Option, none, some}
 use lib.IntN.{ℤ, pos}
 use Rattle.pattern.specs.declared.Refusal.TheVariants.{UnsoundPattern, BrokenRecord, BrokenSteps}
 use Rattle.pattern.specs.Sound.{sound_of}
-use Rattle.record.specs.Reading.{readings}
-use Rattle.record.specs.Record.{lent_sound, book_of}
-use Rattle.record.specs.Worth.{price_of}
+use Rattle.record.specs.Record.{record_sound, book_of}
 use Rattle.record.specs.Run.{steps_of}
+use Rattle.record.specs.Worth.{price_of}
 use Rattle.price.specs.declared.Priced.TheVariants.{Refused}
 use Rattle.price.specs.Price.{steps_fit, scored, priced_of, priced_as, scored_as, PricedNumbers}
 
 pub priced_numbers_lem : PricedNumbers
 unfolding priced_of
-priced_numbers_lem p ds vs fs begin es ss = by (sound_of p) (lent_sound p.channels ds vs fs) (steps_fit ds begin es ss) (price_of p (book_of p.channels ds (readings vs fs)) begin (steps_of es ss))
+priced_numbers_lem p ds vs begin es ss = by (sound_of p) (record_sound p.channels ds vs) (steps_fit ds begin es ss) (price_of p (book_of p.channels ds vs) begin (steps_of es ss))
   where
     by : (x y z : Bool) (o : Option ℤ)
         → priced_as (cond x (cond y (cond z (scored o) (Refused BrokenSteps)) (Refused BrokenRecord)) (Refused UnsoundPattern))

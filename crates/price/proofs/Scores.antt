@@ -20,16 +20,15 @@ use Rattle.pattern.specs.Sound.{sound_of}
 use Rattle.pattern.specs.Kinds.{is_start}
 use Rattle.pattern.specs.InUse.{place_at, edge_at}
 use Rattle.pattern.specs.Clocks.{Clocks, zero_clocks}
+use Rattle.pattern.specs.Distance.{Sample, place_worth}
 use Rattle.pattern.proofs.SoundLaws.{both}
-use Rattle.pattern.proofs.SlotLaws.{all-mapped, all_append}
-use Rattle.record.specs.Reading.{Reading, Sample, value_of, values_of, readings}
-use Rattle.record.specs.Record.{Book, ticks_of, pieces_of, book_of, value_in_range, lent_sound}
+use Rattle.pattern.proofs.SlotLaws.{all_append}
+use Rattle.record.specs.Record.{Book, ticks_of, pieces_of, book_of, value_in_range, record_sound}
 use Rattle.record.specs.Joined.{agrees, absorb, joined, observed}
-use Rattle.record.specs.Worth.{worth_in, stay_worth, stay_worths, run_worth, price_of}
 use Rattle.record.specs.Run.{Step, can_step, clocks_after, goes, is_run, length_of, steps_of}
+use Rattle.record.specs.Worth.{stay_worth, stay_worths, run_worth, price_of}
 use Rattle.record.proofs.ListLaws.{all_take, all_drop}
-use Rattle.record.proofs.ReadingLaws.{readings-values}
-use Rattle.record.proofs.RecordLaws.{parts, length-ticks, lent-parts}
+use Rattle.record.proofs.RecordLaws.{parts, length-ticks}
 use Rattle.record.proofs.PlaceLaws.{place-at-sound, margin-place-size, place-size}
 use Rattle.record.proofs.StepLaws.{can-parts}
 use Rattle.record.proofs.PriceLaws.{priced_parts}
@@ -57,34 +56,28 @@ longer Sum m n z l h = omega arith
 
 -- ---- samples in range
 
-abbrev in_range : Reading → Bool
-in_range r = value_in_range (value_of r)
-
-values-range : (x : Sample) → all value_in_range (values_of x) ≡ all in_range x
-values-range x = all-mapped value_in_range value_of x
-
-same-range : (d : ℕ) (x : Sample) → all in_range x ≡ true → all (all in_range) (replicate d x) ≡ true
+same-range : (d : ℕ) (x : Sample) → all value_in_range x ≡ true → all (all value_in_range) (replicate d x) ≡ true
 same-range zero x h = refl
 same-range (suc d) x h = rw (h, same-range d x h)
 
-ticks-range : (n : ℕ) (ds : List ℕ) (rs : List Reading) → all in_range rs ≡ true → all (all in_range) (ticks_of (pieces_of n ds rs)) ≡ true
+ticks-range : (n : ℕ) (ds : List ℕ) (vs : List ℤ) → all value_in_range vs ≡ true → all (all value_in_range) (ticks_of (pieces_of n ds vs)) ≡ true
 unfolding ticks_of pieces_of
-ticks-range n [] rs h = refl
-ticks-range n (d ∷ ds) rs h =
-    all_append (all in_range) (replicate d (take n rs)) (ticks_of (pieces_of n ds (drop n rs)))
-    ∙ rw (same-range d (take n rs) (all_take in_range n rs h), ticks-range n ds (drop n rs) (all_drop in_range n rs h))
+ticks-range n [] vs h = refl
+ticks-range n (d ∷ ds) vs h =
+    all_append (all value_in_range) (replicate d (take n vs)) (ticks_of (pieces_of n ds (drop n vs)))
+    ∙ rw (same-range d (take n vs) (all_take value_in_range n vs h), ticks-range n ds (drop n vs) (all_drop value_in_range n vs h))
 
-joined-range : (same : Sample → Sample → Bool) (b : Book) → all (all in_range) b ≡ true → all (all in_range) (joined same b) ≡ true
+joined-range : (same : Sample → Sample → Bool) (b : Book) → all (all value_in_range) b ≡ true → all (all value_in_range) (joined same b) ≡ true
 unfolding joined absorb
 joined-range same [] h = refl
-joined-range same (x ∷ b) h = let k = both (all in_range x) (all (all in_range) b) h in absorbed (joined same b) k.0 (joined-range same b k.1)
+joined-range same (x ∷ b) h = let k = both (all value_in_range x) (all (all value_in_range) b) h in absorbed (joined same b) k.0 (joined-range same b k.1)
   where
-    absorbed : (ys : List Sample) → all in_range x ≡ true → all (all in_range) ys ≡ true → all (all in_range) (absorb same x ys) ≡ true
+    absorbed : (ys : List Sample) → all value_in_range x ≡ true → all (all value_in_range) ys ≡ true → all (all value_in_range) (absorb same x ys) ≡ true
     absorbed [] e f = rw e
     absorbed (y ∷ ys) e f = by (same x y)
       where
-        by : (t : Bool) → all (all in_range) (cond t (x ∷ ys) (x ∷ y ∷ ys)) ≡ true
-        by true = rw e (both (all in_range y) (all (all in_range) ys) f).1
+        by : (t : Bool) → all (all value_in_range) (cond t (x ∷ ys) (x ∷ y ∷ ys)) ≡ true
+        by true = rw e (both (all value_in_range y) (all (all value_in_range) ys) f).1
         by false = rw e f
 
 joined-short : (same : Sample → Sample → Bool) (b : Book) → length (joined same b) ≤ length b
@@ -103,28 +96,28 @@ joined-short same (x ∷ b) = let k = joined-short same b in let l = absorbed (j
 -- ---- a stay, and a run
 
 module _ (p : Pattern) (sound : sound_of p ≡ true) where
-  place_sized : (w : Weighing) (k : ℕ) (x : Sample) → k < p.placecount → all in_range x ≡ true → Sized w 1 (worth_in w (place_at p k) x)
-  place_sized Margin k x h e = margin-place-size p.channels (place_at p k) (values_of x) (place-at-sound p k sound h) (values-range x ∙ e)
-  place_sized Sum k x h e = place-size p.channels (place_at p k) (values_of x) (place-at-sound p k sound h) (values-range x ∙ e) Sum
+  place_sized : (w : Weighing) (k : ℕ) (x : Sample) → k < p.placecount → all value_in_range x ≡ true → Sized w 1 (place_worth w (place_at p k) x)
+  place_sized Margin k x h e = margin-place-size p.channels (place_at p k) x (place-at-sound p k sound h) e
+  place_sized Sum k x h e = place-size p.channels (place_at p k) x (place-at-sound p k sound h) e Sum
 
-  seen_sized : (w : Weighing) (k n : ℕ) (a : ℤ) (ys : List Sample) → k < p.placecount → all (all in_range) ys ≡ true → Sized w n a
-      → Sized w (n + length ys) (combine_from (weighting_of w) a (map (worth_in w (place_at p k)) ys))
+  seen_sized : (w : Weighing) (k n : ℕ) (a : ℤ) (ys : List Sample) → k < p.placecount → all (all value_in_range) ys ≡ true → Sized w n a
+      → Sized w (n + length ys) (combine_from (weighting_of w) a (map (place_worth w (place_at p k)) ys))
   unfolding combine_from
   seen_sized w k n a [] h e s = longer w n (n + 0) a (omega arith) s
   seen_sized w k n a (y ∷ ys) h e s =
-      let r = both (all in_range y) (all (all in_range) ys) e in
-      let v = (weighting_of w).combine a (worth_in w (place_at p k) y) in
-      longer w (n + 1 + length ys) (n + suc (length ys)) (combine_from (weighting_of w) v (map (worth_in w (place_at p k)) ys)) (omega arith)
-      (seen_sized w k (n + 1) v ys h r.1 (combine_sized w n 1 a (worth_in w (place_at p k) y) s (place_sized w k y h r.0)))
+      let r = both (all value_in_range y) (all (all value_in_range) ys) e in
+      let v = (weighting_of w).combine a (place_worth w (place_at p k) y) in
+      longer w (n + 1 + length ys) (n + suc (length ys)) (combine_from (weighting_of w) v (map (place_worth w (place_at p k)) ys)) (omega arith)
+      (seen_sized w k (n + 1) v ys h r.1 (combine_sized w n 1 a (place_worth w (place_at p k) y) s (place_sized w k y h r.0)))
 
-  module _ (b : Book) (fine : all (all in_range) b ≡ true) where
+  module _ (b : Book) (fine : all (all value_in_range) b ≡ true) where
     stay_sized : (k t n : ℕ) → k < p.placecount → Sized p.weighing n (stay_worth p b k t n)
     unfolding stay_worth observed
     stay_sized k t n h =
         let seen = take n (drop t b) in
         let same = agrees (place_at p k) in
         longer p.weighing (0 + length (joined same seen)) n (stay_worth p b k t n) (omega (arith, joined-short same seen, length-take n (drop t b)))
-        (seen_sized p.weighing k 0 (weighting_of p.weighing).unit (joined same seen) h (joined-range same seen (all_take (all in_range) n (drop t b) (all_drop (all in_range) t b fine))) (unit_sized p.weighing))
+        (seen_sized p.weighing k 0 (weighting_of p.weighing).unit (joined same seen) h (joined-range same seen (all_take (all value_in_range) n (drop t b) (all_drop (all value_in_range) t b fine))) (unit_sized p.weighing))
 
     stays_sized : (k : ℕ) (cs : Clocks) (t n : ℕ) (a : ℤ) (xs : List Step) → goes p k cs xs ≡ true → Sized p.weighing n a
         → Sized p.weighing (n + length_of xs) (combine_from (weighting_of p.weighing) a (stay_worths p b t xs))
@@ -162,26 +155,24 @@ IsScore (Refused r) = ⊥
 
 pub scores-in-range : ScoresInRange
 unfolding priced_of book_of
-scores-in-range p ds vs fs begin es ss w e =
-    by (sound_of p) (lent_sound p.channels ds vs fs) (steps_fit ds begin es ss) (price_of p b begin xs) refl refl refl e
+scores-in-range p ds vs begin es ss w e =
+    by (sound_of p) (record_sound p.channels ds vs) (steps_fit ds begin es ss) (price_of p b begin xs) refl refl refl e
   where
     b : Book
-    b = book_of p.channels ds (readings vs fs)
+    b = book_of p.channels ds vs
 
     xs : List Step
     xs = steps_of es ss
 
-    sized : sound_of p ≡ true → lent_sound p.channels ds vs fs ≡ true → price_of p b begin xs ≡ some w
+    sized : sound_of p ≡ true → record_sound p.channels ds vs ≡ true → price_of p b begin xs ≡ some w
         → (nat_abs w ≤ largest_score p.weighing (length_of xs)) × (nat_abs w < 2 ^ 54)
     sized sound kept e =
         let k = priced_parts p b begin xs w e in
-        let lent = lent-parts p.channels ds vs fs kept in
-        let r = parts p.channels ds vs lent.0 in
-        let fine = sym (values-range (readings vs fs)) ∙ ap (all value_in_range) (readings-values vs fs lent.1) ∙ r.values in
-        let low = k.inside in
+        let r = parts p.channels ds vs kept in
+        let low = k.1 in
         let short = r.short in
-        let long = length-ticks p.channels ds (readings vs fs) in
-        let s = subst (Sized p.weighing (length_of xs)) k.worth (run_sized p sound b (ticks-range p.channels ds (readings vs fs) fine) begin xs k.run) in
+        let long = length-ticks p.channels ds vs in
+        let s = subst (Sized p.weighing (length_of xs)) k.2 (run_sized p sound b (ticks-range p.channels ds vs r.values) begin xs k.0) in
         (s, far p.weighing (length_of xs) w (omega arith) s)
 
     refused : {A : Type 0} (r : Refusal) → Refused r ≡ Score w → A
@@ -194,7 +185,7 @@ scores-in-range p ds vs fs begin es ss w e =
         worth (Score z) = z
         worth (Refused r) = w
 
-    by : (x y z : Bool) (o : Option ℤ) → sound_of p ≡ x → lent_sound p.channels ds vs fs ≡ y → price_of p b begin xs ≡ o
+    by : (x y z : Bool) (o : Option ℤ) → sound_of p ≡ x → record_sound p.channels ds vs ≡ y → price_of p b begin xs ≡ o
         → cond x (cond y (cond z (scored o) (Refused BrokenSteps)) (Refused BrokenRecord)) (Refused UnsoundPattern) ≡ Score w
         → (nat_abs w ≤ largest_score p.weighing (length_of xs)) × (nat_abs w < 2 ^ 54)
     by true true true (some v) f g q e = sized f g (q ∙ ap some (the_score v e))

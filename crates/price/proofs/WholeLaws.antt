@@ -19,22 +19,20 @@ use Rattle.pattern.specs.declared.Pattern.{Pattern}
 use Rattle.pattern.specs.InUse.{place_at, edge_at}
 use Rattle.pattern.specs.Kinds.{is_start, is_end}
 use Rattle.pattern.specs.Clocks.{Clocks, clock_at, zero_clocks}
+use Rattle.pattern.specs.Distance.{place_worth}
 use Rattle.pattern.proofs.SoundLaws.{both}
 use Rattle.price.specs.declared.Begin.{Begin}
 use Rattle.price_runs.specs.declared.Stand.{Stand}
-use Rattle.record.specs.Reading.{Reading, readings}
 use Rattle.record.specs.Record.{Book, ticks_of, pieces_of, book_of, total}
 use Rattle.record.specs.Joined.{agrees, joined, observed}
-use Rattle.record.specs.Stay.{stay_open, stays_open}
-use Rattle.record.specs.Worth.{worth_in, stay_worth, stay_worths, run_worth, price_of}
 use Rattle.record.specs.Run.{Step, can_step, clocks_after, goes, is_run, length_of, steps_of}
+use Rattle.record.specs.Worth.{stay_worth, stay_worths, run_worth, price_of}
 use Rattle.price.specs.Price.{steps_fit}
 use Rattle.price_stays.specs.Walk.{ahead}
 use Rattle.price_runs.specs.Stand.{score_from, outcome, Held}
 use Rattle.price_runs.proofs.RunLaws.{steps-at}
 use Rattle.price.specs.Whole.{Found, start_of, Fit}
 use Rattle.record.proofs.ListLaws.{get_d_any}
-use Rattle.record.proofs.ReadingLaws.{read-drop, readings-drop}
 use Rattle.record.proofs.RecordLaws.{parts, part_sound, length-ticks, drop_pieces, ticks-from}
 use Rattle.record.proofs.PlaceLaws.{stays-worth-all}
 
@@ -46,13 +44,6 @@ worths_shift p b t u [] = refl
 worths_shift p b t u (x ∷ xs) =
     let e : t + u + x.stay ≡ t + (u + x.stay) = omega arith in
     rw (e, worths_shift p b t (u + x.stay) xs, drop-drop u t b)
-
-opens_shift : (p : Pattern) (b : Book) (t u : ℕ) (xs : List Step) → stays_open p b (t + u) xs ≡ stays_open p (drop t b) u xs
-unfolding stays_open stay_open
-opens_shift p b t u [] = refl
-opens_shift p b t u (x ∷ xs) =
-    let e : t + u + x.stay ≡ t + (u + x.stay) = omega arith in
-    rw (e, opens_shift p b t (u + x.stay) xs, drop-drop u t b)
 
 leb-split : (a b n : ℕ) → leb (a + b) n ≡ leb a n && leb b (n - a)
 leb-split a b n = by (leb a n) refl
@@ -66,40 +57,35 @@ leb-split a b n = by (leb a n) refl
     by false e = lt-leb (a + b) n (omega (arith, leb-false a n e))
 
 pub score-is : (p : Pattern) (b : Book) (a : ℤ) (k : ℕ) (cs : Clocks) (xs : List Step) → T ((weighting_of p.weighing).worth a)
-    → score_from p b a k cs xs ≡ cond (goes p k cs xs && leb (length_of xs) (length b) && stays_open p b 0 xs) (some (combine_from (weighting_of p.weighing) a (stay_worths p b 0 xs))) none
-unfolding score_from goes length_of stay_worths combine_from stay_worth observed stays_open
+    → score_from p b a k cs xs ≡ cond (goes p k cs xs && leb (length_of xs) (length b)) (some (combine_from (weighting_of p.weighing) a (stay_worths p b 0 xs))) none
+unfolding score_from goes length_of stay_worths combine_from stay_worth observed
 score-is p b a k cs [] h = rw (le-leb 0 (length b) (omega arith)) (by (is_end (place_at p k).kind))
   where
-    by : (t : Bool) → cond t (some a) none ≡ cond (t && true && true) (some a) none
+    by : (t : Bool) → cond t (some a) none ≡ cond (t && true) (some a) none
     by true = refl
     by false = refl
 score-is p b a k cs (x ∷ xs) h =
     let W = weighting_of p.weighing in
-    let obs = map (worth_in p.weighing (place_at p (edge_at p x.edge).from)) (joined (agrees (place_at p (edge_at p x.edge).from)) (take x.stay b)) in
+    let obs = map (place_worth p.weighing (place_at p (edge_at p x.edge).from)) (joined (agrees (place_at p (edge_at p x.edge).from)) (take x.stay b)) in
     let a' = combine_from W a obs in
     let b' = drop x.stay b in
-    rw (score-is p b' a' (edge_at p x.edge).to (clocks_after p cs x) xs (stays-worth-all p.weighing a obs h), length-drop x.stay b, leb-split x.stay (length_of xs) (length b), flat, opened)
-    (by (can_step p k cs x) (leb x.stay (length b)) (stay_open p b (edge_at p x.edge).from 0 x.stay) (goes p (edge_at p x.edge).to (clocks_after p cs x) xs) (leb (length_of xs) (length b - x.stay)) (stays_open p (drop x.stay b) 0 xs) _)
+    rw (score-is p b' a' (edge_at p x.edge).to (clocks_after p cs x) xs (stays-worth-all p.weighing a obs h), length-drop x.stay b, leb-split x.stay (length_of xs) (length b), flat)
+    (by (can_step p k cs x) (leb x.stay (length b)) (goes p (edge_at p x.edge).to (clocks_after p cs x) xs) (leb (length_of xs) (length b - x.stay)) _)
   where
     flat : combine_from (weighting_of p.weighing) ((weighting_of p.weighing).combine a (stay_worth p b (edge_at p x.edge).from 0 x.stay)) (stay_worths p b (0 + x.stay) xs)
-        ≡ combine_from (weighting_of p.weighing) (combine_from (weighting_of p.weighing) a (map (worth_in p.weighing (place_at p (edge_at p x.edge).from)) (joined (agrees (place_at p (edge_at p x.edge).from)) (take x.stay b)))) (stay_worths p (drop x.stay b) 0 xs)
+        ≡ combine_from (weighting_of p.weighing) (combine_from (weighting_of p.weighing) a (map (place_worth p.weighing (place_at p (edge_at p x.edge).from)) (joined (agrees (place_at p (edge_at p x.edge).from)) (take x.stay b)))) (stay_worths p (drop x.stay b) 0 xs)
     flat =
         let W = weighting_of p.weighing in
-        let obs = map (worth_in p.weighing (place_at p (edge_at p x.edge).from)) (joined (agrees (place_at p (edge_at p x.edge).from)) (take x.stay b)) in
+        let obs = map (place_worth p.weighing (place_at p (edge_at p x.edge).from)) (joined (agrees (place_at p (edge_at p x.edge).from)) (take x.stay b)) in
         let zero-first : 0 + x.stay ≡ x.stay + 0 = omega arith in
         rw (zero-first, worths_shift p b x.stay 0 xs, ← combine_from-combine W a W.unit obs, W.unit_right a h)
 
-    opened : stays_open p b (0 + x.stay) xs ≡ stays_open p (drop x.stay b) 0 xs
-    opened = let zero-first : 0 + x.stay ≡ x.stay + 0 = omega arith in rw zero-first (opens_shift p b x.stay 0 xs)
-
-    by : (c l o g m q : Bool) (r : Option ℤ) → cond (c && l && o) (cond (g && m && q) r none) none ≡ cond (c && g && (l && m) && (o && q)) r none
-    by true true true g m q r = refl
-    by true true false true true q r = refl
-    by true true false true false q r = refl
-    by true true false false m q r = refl
-    by true false o true m q r = refl
-    by true false o false m q r = refl
-    by false l o g m q r = refl
+    by : (c l g m : Bool) (o : Option ℤ) → cond (c && l) (cond (g && m) o none) none ≡ cond (c && g && (l && m)) o none
+    by true true true m o = refl
+    by true true false m o = refl
+    by true false true m o = refl
+    by true false false m o = refl
+    by false l g m o = refl
 
 pub price-is : (p : Pattern) (b : Book) (begin : ℕ) (x : Step) (xs : List Step) → begin ≤ length b
     → price_of p b begin (x ∷ xs)
@@ -110,24 +96,23 @@ price-is p b begin x xs h =
     let k = (edge_at p x.edge).from in
     let e : begin ≡ begin + 0 = omega arith in
     let w : stay_worths p b begin (x ∷ xs) ≡ stay_worths p (drop begin b) 0 (x ∷ xs) = ap (λ (t : ℕ). stay_worths p b t (x ∷ xs)) e ∙ worths_shift p b begin 0 (x ∷ xs) in
-    let o : stays_open p b begin (x ∷ xs) ≡ stays_open p (drop begin b) 0 (x ∷ xs) = ap (λ (t : ℕ). stays_open p b t (x ∷ xs)) e ∙ opens_shift p b begin 0 (x ∷ xs) in
-    rw (score-is p (drop begin b) (weighting_of p.weighing).unit k zero_clocks (x ∷ xs) (weighting_of p.weighing).unit_worth, w, o, leb-split begin (length_of (x ∷ xs)) (length b), le-leb begin (length b) h, length-drop begin b)
-    (by (is_start (place_at p k).kind) (goes p k zero_clocks (x ∷ xs)) (leb (length_of (x ∷ xs)) (length b - begin)) (stays_open p (drop begin b) 0 (x ∷ xs)) _)
+    rw (score-is p (drop begin b) (weighting_of p.weighing).unit k zero_clocks (x ∷ xs) (weighting_of p.weighing).unit_worth, w, leb-split begin (length_of (x ∷ xs)) (length b), le-leb begin (length b) h, length-drop begin b)
+    (by (is_start (place_at p k).kind) (goes p k zero_clocks (x ∷ xs)) (leb (length_of (x ∷ xs)) (length b - begin)) _)
   where
-    by : (s g l q : Bool) (o : Option ℤ) → cond (s && g && l && q) o none ≡ cond s (cond (g && l && q) o none) none
-    by true g l q o = refl
-    by false g l q o = refl
+    by : (s g l : Bool) (o : Option ℤ) → cond (s && g && l) o none ≡ cond s (cond (g && l) o none) none
+    by true g l o = refl
+    by false g l o = refl
 
 -- ---- the begin's piece
 
 -- the begin's ticks lie ahead of the begin's piece, in the part of the record from that piece on
-pub begin-ahead : (n : ℕ) (ds : List ℕ) (rs : List Reading) (begin : ℕ) (r : Begin) → Found ds begin r
-    → drop begin (book_of n ds rs) ≡ ahead n (drop r.piece ds) (drop (r.piece * n) rs) 0 r.used
+pub begin-ahead : (n : ℕ) (ds : List ℕ) (vs : List ℤ) (begin : ℕ) (r : Begin) → Found ds begin r
+    → drop begin (book_of n ds vs) ≡ ahead n (drop r.piece ds) (drop (r.piece * n) vs) 0 r.used
 unfolding book_of ahead
-begin-ahead n ds rs begin r f =
-    ap (λ (t : ℕ). drop t (ticks_of (pieces_of n ds rs))) f.is
-    ∙ sym (drop-drop r.used (total (take r.piece ds)) (ticks_of (pieces_of n ds rs)))
-    ∙ ap (drop r.used) (ticks-from n r.piece ds rs (let e = f.inside in omega arith) ∙ ap ticks_of (drop_pieces n r.piece ds rs))
+begin-ahead n ds vs begin r f =
+    ap (λ (t : ℕ). drop t (ticks_of (pieces_of n ds vs))) f.is
+    ∙ sym (drop-drop r.used (total (take r.piece ds)) (ticks_of (pieces_of n ds vs)))
+    ∙ ap (drop r.used) (ticks-from n r.piece ds vs (let e = f.inside in omega arith) ∙ ap ticks_of (drop_pieces n r.piece ds vs))
 
 -- ---- the whole
 
@@ -155,16 +140,16 @@ zero-at (suc (suc zero)) = refl
 zero-at (suc (suc (suc zero))) = refl
 zero-at (suc (suc (suc (suc k)))) = refl
 
-module _ (p : Pattern) (ds : List ℕ) (vs : List ℤ) (fs : List ℕ) (begin : ℕ) (es ss : List ℕ) (h : Fit p ds vs fs begin es ss) (r : Begin) (f : Found ds begin r) where
+module _ (p : Pattern) (ds : List ℕ) (vs : List ℤ) (begin : ℕ) (es ss : List ℕ) (h : Fit p ds vs begin es ss) (r : Begin) (f : Found ds begin r) where
   -- where the code stands at the begin, in the part of the record from the begin's piece on
   abbrev pub at_begin : Stand
   at_begin = start_of p (get_or es 0 0) r.used (total ds - begin)
 
-  pub book-long : length (book_of p.channels ds (readings vs fs)) ≡ total ds
+  pub book-long : length (book_of p.channels ds vs) ≡ total ds
   unfolding book_of
-  book-long = length-ticks p.channels ds (readings vs fs)
+  book-long = length-ticks p.channels ds vs
 
-  pub held-at-begin : Held p (drop r.piece ds) (drop (r.piece * p.channels) vs) (drop (r.piece * p.channels) fs) at_begin
+  pub held-at-begin : Held p (drop r.piece ds) (drop (r.piece * p.channels) vs) at_begin
   held-at-begin =
       let k = parts p.channels ds vs h.kept in
       let short = k.short in
@@ -175,20 +160,19 @@ module _ (p : Pattern) (ds : List ℕ) (vs : List ℤ) (fs : List ℕ) (begin : 
       record {
         sound = h.sound;
         kept = part_sound p.channels r.piece ds vs h.kept (omega arith);
-        lent = read-drop (r.piece * p.channels) vs fs h.lent;
         stands = record { inside = omega arith; below = omega arith };
-        left = rw (readings-drop (r.piece * p.channels) vs fs, ← begin-ahead p.channels ds (readings vs fs) begin r f, length-drop begin (book_of p.channels ds (readings vs fs)), book-long);
+        left = rw (← begin-ahead p.channels ds vs begin r f, length-drop begin (book_of p.channels ds vs), book-long);
         clocks = λ k. omega (arith, zero-at k);
         size = omega (arith, unit_size p.weighing);
       }
 
-  pub outcome-at-begin : outcome p (drop r.piece ds) (readings (drop (r.piece * p.channels) vs) (drop (r.piece * p.channels) fs)) at_begin (steps_of es ss)
-      ≡ price_of p (book_of p.channels ds (readings vs fs)) begin (steps_of es ss)
+  pub outcome-at-begin : outcome p (drop r.piece ds) (drop (r.piece * p.channels) vs) at_begin (steps_of es ss)
+      ≡ price_of p (book_of p.channels ds vs) begin (steps_of es ss)
   unfolding outcome
   outcome-at-begin =
       let g = steps ds begin es ss h.steps in
       let same = g.same in
       let some_step = g.some_step in
       let within = g.within in
-      rw (steps-at es ss 0 same (omega arith), readings-drop (r.piece * p.channels) vs fs, ← begin-ahead p.channels ds (readings vs fs) begin r f)
-      (sym (price-is p (book_of p.channels ds (readings vs fs)) begin (record { edge = get_or es 0 0; stay = get_or ss 0 0 }) (drop (0 + 1) (steps_of es ss)) (omega (arith, book-long))))
+      rw (steps-at es ss 0 same (omega arith), ← begin-ahead p.channels ds vs begin r f)
+      (sym (price-is p (book_of p.channels ds vs) begin (record { edge = get_or es 0 0; stay = get_or ss 0 0 }) (drop (0 + 1) (steps_of es ss)) (omega (arith, book-long))))

@@ -1,5 +1,4 @@
--- The operation 'Price a run' (document 01, 'Operations and refusals'; with lost readings, document 02, R-7): 7, 8, 9, 10 in this
--- order, else the score.
+-- The operation 'Price a run' (document 01, 'Operations and refusals'): 7, 8, 9, 10 in this order, else the score.
 use Rattle.std.specs.Prelude.{ℕ, ◌*◌, ◌^◌, ◌≤◌, ◌<◌, ◌≡◌, List, Bool, cond, ◌&&◌, eqb, leb, ltb, length, ℤ, pos, nat_abs}
 use Rattle.std.proofs.Math.Option.{Option, none, some}
 use Rattle.weighting.specs.declared.Weighing.{Weighing}
@@ -8,31 +7,28 @@ use Rattle.pattern.specs.declared.Pattern.{Pattern}
 use Rattle.pattern.specs.declared.Refusal.TheVariants.{UnsoundPattern, BrokenRecord, BrokenSteps, NotARun}
 use Rattle.pattern.specs.Sound.{sound_of}
 use Rattle.pattern.specs.Refusal.{number_of}
-use Rattle.pattern.specs.Distance.{Values}
 use Rattle.price.specs.declared.Priced.{Priced}
 use Rattle.price.specs.declared.Priced.TheVariants.{Score, Refused}
-use Rattle.record.specs.Reading.{readings}
-use Rattle.record.specs.Record.{total, lent_sound, book_of}
-use Rattle.record.specs.Worth.{price_of}
+use Rattle.record.specs.Record.{total, record_sound, book_of}
 use Rattle.record.specs.Run.{length_of, steps_of}
+use Rattle.record.specs.Worth.{price_of}
 
 -- "9: edge list and stay list differ in length, are empty or over 4,095, or begin is not inside the record."
 unfoldable pub steps_fit : (durations : List ℕ) → (begin : ℕ) → (edges stays : List ℕ) → Bool
 steps_fit ds begin es ss =
     eqb (length es) (length ss) && leb 1 (length es) && leb (length es) 4_095 && ltb begin (total ds)
 
--- "10: they are not a run, or pass the record's end." Nor are they a run if a stay meets a lost reading that its place tests
--- (document 02, R-7; theorem LostLeavesNoRun).
+-- "10: they are not a run, or pass the record's end."
 abbrev pub scored : Option ℤ → Priced
 scored (some w) = Score w
 scored none = Refused NotARun
 
-unfoldable pub priced_of : Pattern → (durations : List ℕ) → Values → (flags : List ℕ) → (begin : ℕ) → (edges stays : List ℕ) → Priced
-priced_of p ds vs fs begin es ss =
+unfoldable pub priced_of : Pattern → (durations : List ℕ) → (values : List ℤ) → (begin : ℕ) → (edges stays : List ℕ) → Priced
+priced_of p ds vs begin es ss =
     cond (sound_of p)
-    (cond (lent_sound p.channels ds vs fs)
+    (cond (record_sound p.channels ds vs)
     (cond (steps_fit ds begin es ss)
-    (scored (price_of p (book_of p.channels ds (readings vs fs)) begin (steps_of es ss)))
+    (scored (price_of p (book_of p.channels ds vs) begin (steps_of es ss)))
     (Refused BrokenSteps))
     (Refused BrokenRecord))
     (Refused UnsoundPattern)
@@ -47,21 +43,19 @@ scored_as (some w) = (0, w)
 scored_as none = (10, pos 0)
 
 -- What is due, in document 01's numbers.
-abbrev pub priced_numbers : Pattern → (durations : List ℕ) → Values → (flags : List ℕ) → (begin : ℕ) → (edges stays : List ℕ) → ℕ × ℤ
-priced_numbers p ds vs fs begin es ss =
+abbrev pub priced_numbers : Pattern → (durations : List ℕ) → (values : List ℤ) → (begin : ℕ) → (edges stays : List ℕ) → ℕ × ℤ
+priced_numbers p ds vs begin es ss =
     cond (sound_of p)
-    (cond (lent_sound p.channels ds vs fs)
-    (cond (steps_fit ds begin es ss)
-    (scored_as (price_of p (book_of p.channels ds (readings vs fs)) begin (steps_of es ss)))
-    (9, pos 0))
+    (cond (record_sound p.channels ds vs)
+    (cond (steps_fit ds begin es ss) (scored_as (price_of p (book_of p.channels ds vs) begin (steps_of es ss))) (9, pos 0))
     (8, pos 0))
     (7, pos 0)
 
 -- Theorem: the two agree.
 abbrev pub PricedNumbers : Type 0
 PricedNumbers =
-    (p : Pattern) (ds : List ℕ) (vs : Values) (fs : List ℕ) (begin : ℕ) (es ss : List ℕ)
-    → priced_as (priced_of p ds vs fs begin es ss) ≡ priced_numbers p ds vs fs begin es ss
+    (p : Pattern) (ds : List ℕ) (vs : List ℤ) (begin : ℕ) (es ss : List ℕ)
+    → priced_as (priced_of p ds vs begin es ss) ≡ priced_numbers p ds vs begin es ss
 
 -- How large a run of so many ticks can be: in margin no more than one distance, or 2,000,001 without tests; in sum each tick
 -- brings at most one observation, of at most four distances of 2,000,000.
@@ -73,6 +67,6 @@ largest_score Sum n = 8_000_000 * n
 -- 2^63, as a record has at most 2,147,483,647 ticks.
 abbrev pub ScoresInRange : Type 0
 ScoresInRange =
-    (p : Pattern) (ds : List ℕ) (vs : Values) (fs : List ℕ) (begin : ℕ) (es ss : List ℕ) (w : ℤ)
-    → priced_of p ds vs fs begin es ss ≡ Score w
+    (p : Pattern) (ds : List ℕ) (vs : List ℤ) (begin : ℕ) (es ss : List ℕ) (w : ℤ)
+    → priced_of p ds vs begin es ss ≡ Score w
     → (nat_abs w ≤ largest_score p.weighing (length_of (steps_of es ss))) × (nat_abs w < 2 ^ 54)

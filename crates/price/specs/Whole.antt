@@ -7,8 +7,6 @@ use Rattle.pattern.specs.InUse.{place_at, edge_at}
 use Rattle.pattern.specs.Kinds.{is_start, is_end}
 use Rattle.pattern.specs.Clocks.{zero_clocks}
 use Rattle.pattern.specs.Sound.{sound_of}
-use Rattle.pattern.specs.Distance.{Values}
-use Rattle.record.specs.Reading.{read_sound}
 use Rattle.record.specs.Record.{total, record_sound}
 use Rattle.price_runs.specs.declared.Stand.{Stand}
 use Rattle.price.specs.declared.Begin.{Begin}
@@ -38,8 +36,7 @@ abbrev pub score_at : Pattern → (going : Bool) → (place : ℕ) → (worth : 
 score_at p going k a = cond going (cond (is_end (place_at p k).kind) (some a) none) none
 
 -- Nothing is refused with 7, 8 or 9.
-pub record Fit (p : Pattern) (durations : List ℕ) (values : Values) (flags : List ℕ) (begin : ℕ) (edges stays : List ℕ) : Type 0 where
+pub record Fit (p : Pattern) (durations : List ℕ) (values : List ℤ) (begin : ℕ) (edges stays : List ℕ) : Type 0 where
   pub sound : sound_of p ≡ true
   pub kept : record_sound p.channels durations values ≡ true
-  pub lent : read_sound values flags ≡ true
   pub steps : steps_fit durations begin edges stays ≡ true

@@ -1,10 +1,9 @@
 // Pricing a run laid out edge by edge: what it is refused for, where it begins, its steps, and what it comes to.
 ghost use Rattle.std.specs.Prelude.{◌≡◌, ◌≤◌, ◌<◌, length};
 ghost use Rattle.pattern.specs.InUse.{place_at, edge_at};
-ghost use Rattle.record.specs.Reading.{readings};
 ghost use Rattle.record.specs.Record.{total, book_of};
-ghost use Rattle.record.specs.Worth.{price_of};
 ghost use Rattle.record.specs.Run.{steps_of};
+ghost use Rattle.record.specs.Worth.{price_of};
 ghost use Rattle.price_runs.specs.Stand.{outcome, Held};
 ghost use Rattle.price.specs.Price.{steps_fit, scored, priced_of, priced_as, priced_numbers};
 ghost use Rattle.price.specs.Whole.{Found, start_of, score_at, Fit};
@@ -115,19 +114,18 @@ fn score_from(
     p: Pattern,
     durations: &[u32],
     values: &[i32],
-    read: &[u8],
     s: Stand,
     edges: &[u32],
     stays: &[u32],
 ) -> Priced
-    requires held { Held p durations.now values.now read.now s }
+    requires held { Held p durations.now values.now s }
     requires edges_len { length edges.now ≡ length stays.now }
     requires in_bounds { 1 ≤ length edges.now }
-    ensures { result ≡ scored (outcome p durations.now (readings values.now read.now) s
+    ensures { result ≡ scored (outcome p durations.now values.now s
         (steps_of edges.now stays.now)) }
 {
-    let first = run(p, durations, values, read, s, &edges[..1], &stays[..1]);
-    let end = run(p, durations, values, read, first, &edges[1..], &stays[1..]);
+    let first = run(p, durations, values, s, &edges[..1], &stays[..1]);
+    let end = run(p, durations, values, first, &edges[1..], &stays[1..]);
     answer(p, end.going, end.place, end.worth)
 }
 
@@ -136,55 +134,44 @@ fn score(
     p: Pattern,
     durations: &[u32],
     values: &[i32],
-    read: &[u8],
     begin: u32,
     edges: &[u32],
     stays: &[u32],
 ) -> Priced
-    requires { Fit p durations.now values.now read.now begin edges.now stays.now }
-    ensures { result ≡ scored (price_of p (book_of p.channels durations.now
-        (readings values.now read.now)) begin (steps_of edges.now stays.now)) }
+    requires { Fit p durations.now values.now begin edges.now stays.now }
+    ensures { result ≡ scored (price_of p (book_of p.channels durations.now values.now) begin
+        (steps_of edges.now stays.now)) }
 {
     let found = find(durations, begin);
     let piece = found.piece;
     let at = piece * (p.channels as usize);
     let left = (ticks(durations) as u32) - begin;
     let s = start(p, edges[0], found.used, left);
-    score_from(
-        p,
-        &durations[piece..],
-        &values[at..],
-        &read[at..],
-        s,
-        edges,
-        stays,
-    )
+    score_from(p, &durations[piece..], &values[at..], s, edges, stays)
 }
 
-// What the run is worth, or refusal 7, 8, 9 or 10. Any slices are answered, and none is written. `read` has a flag for each value,
-// 0 where the channel was not read (document 02, R-7).
+// What the run is worth, or refusal 7, 8, 9 or 10. Any slices are answered, and none is written.
 pub fn price(
     p: Pattern,
     durations: &[u32],
     values: &[i32],
-    read: &[u8],
     begin: u32,
     edges: &[u32],
     stays: &[u32],
 ) -> Priced
-    ensures value { result ≡ priced_of p durations.now values.now read.now begin
+    ensures value { result ≡ priced_of p durations.now values.now begin
         edges.now stays.now }
-    ensures result_value { priced_as result ≡ priced_numbers p durations.now values.now read.now begin
+    ensures result_value { priced_as result ≡ priced_numbers p durations.now values.now begin
         edges.now stays.now }
 {
     if !sound(p) {
         return Priced::Refused(Refusal::UnsoundPattern);
     }
-    if !record_sound(p.channels, durations, values, read) {
+    if !record_sound(p.channels, durations, values) {
         return Priced::Refused(Refusal::BrokenRecord);
     }
     if !steps_fit(durations, begin, edges, stays) {
         return Priced::Refused(Refusal::BrokenSteps);
     }
-    score(p, durations, values, read, begin, edges, stays)
+    score(p, durations, values, begin, edges, stays)
 }

@@ -14,13 +14,10 @@ use Rattle.pattern.specs.declared.Pattern.{Pattern}
 use Rattle.pattern.specs.Sound.{no_edge, edge_sound, sound_of}
 use Rattle.pattern.specs.InUse.{place_at, edge_at}
 use Rattle.pattern.specs.Clocks.{Clocks, later}
-use Rattle.pattern.specs.Distance.{Values}
 use Rattle.pattern.proofs.SoundLaws.{edge-parts}
 use Rattle.pattern.proofs.SoundLaws as pattern-laws
 use Rattle.price_runs.specs.declared.Stand.{Stand}
 use Rattle.price_stays.specs.declared.Walk.{Walk}
-use Rattle.record.specs.Reading.{readings}
-use Rattle.record.specs.Stay.{stay_open}
 use Rattle.record.specs.Run.{Step, can_step, clocks_after, steps_of}
 use Rattle.price_stays.specs.Walk.{ahead, Walks, Stayed}
 use Rattle.price_runs.specs.Stand.{Room, can_leave, score_from, outcome, Held, Able, Stepped}
@@ -55,17 +52,16 @@ pub no_edge_lem : (p : Pattern) (k : ℕ) (cs : Clocks) (x : Step) → p.edgecou
 unfolding can_step
 no_edge_lem p k cs x h = rw (le-ltb x.edge p.edgecount h)
 
-module _ (p : Pattern) (ds : List ℕ) (vs : Values) (fs : List ℕ) (s : Stand) (h : Held p ds vs fs s) where
+module _ (p : Pattern) (ds : List ℕ) (vs : List ℤ) (s : Stand) (h : Held p ds vs s) where
   pub room : (n : ℕ) → n ≤ s.left → Room s.clocks n
   room n l k = omega (arith, h.clocks k)
 
   -- a stay in a place of the pattern
   pub walks : (l : Place) (k n : ℕ) → l ≡ place_at p k → k < p.placecount → n ≤ s.left
-      → Walks p.weighing l p.channels ds vs fs s.piece (record { piece = s.piece; used = s.used; left = n; worth = s.worth; read = true })
+      → Walks p.weighing l p.channels ds vs s.piece (record { piece = s.piece; used = s.used; left = n; worth = s.worth })
   walks l k n is has fits =
       record {
         sound = h.kept;
-        lent = h.lent;
         mild = λ x e. rw is (place-size p.channels (place_at p k) x (place-at-sound p k h.sound has) e p.weighing);
         stands = h.stands;
         onward = omega arith;
@@ -75,50 +71,49 @@ module _ (p : Pattern) (ds : List ℕ) (vs : Values) (fs : List ℕ) (s : Stand)
 
   -- a step that is made
   pub made : (x : Step) (there : Walk) → Able p s x
-      → Stayed p.weighing (place_at p (edge_at p x.edge).from) p.channels ds (readings vs fs) (record { piece = s.piece; used = s.used; left = x.stay; worth = s.worth; read = true }) there
-      → Stepped p ds vs fs s x (record { going = there.read; place = (edge_at p x.edge).to; clocks = clocks_after p s.clocks x; piece = there.piece; used = there.used; left = s.left - x.stay; worth = there.worth })
-  unfolding outcome score_from stay_open
+      → Stayed p.weighing (place_at p (edge_at p x.edge).from) p.channels ds vs (record { piece = s.piece; used = s.used; left = x.stay; worth = s.worth }) there
+      → Stepped p ds vs s x (record { going = true; place = (edge_at p x.edge).to; clocks = clocks_after p s.clocks x; piece = there.piece; used = there.used; left = s.left - x.stay; worth = there.worth })
+  unfolding outcome score_from
   made x there able stayed =
-      let B = ahead p.channels ds (readings vs fs) s.piece s.used in
+      let B = ahead p.channels ds vs s.piece s.used in
       let fits = able.fits in
       let long = h.left in
       record {
         held = record {
           sound = h.sound;
           kept = h.kept;
-          lent = h.lent;
           stands = stayed.stands;
           left = rw (stayed.rest, length-drop x.stay B) (ap (λ (n : ℕ). n - x.stay) h.left);
           clocks = λ k. omega (arith, clocks-after p s.clocks x k, h.clocks k);
           size = let a = h.size in let b = stayed.size in omega arith;
         };
-        same = λ xs. rw (able.going, able.can, le-leb x.stay (length B) (omega arith), stayed.rest, stayed.worth, stayed.through);
+        same = λ xs. rw (able.going, able.can, le-leb x.stay (length B) (omega arith), stayed.rest, stayed.worth);
       }
 
   -- one that is not
   abbrev pub stopped : Stand
   stopped = record { going = false; place = s.place; clocks = s.clocks; piece = s.piece; used = s.used; left = s.left; worth = s.worth }
 
-  held-still : Held p ds vs fs stopped
-  held-still = record { sound = h.sound; kept = h.kept; lent = h.lent; stands = h.stands; left = h.left; clocks = h.clocks; size = h.size }
+  held-still : Held p ds vs stopped
+  held-still = record { sound = h.sound; kept = h.kept; stands = h.stands; left = h.left; clocks = h.clocks; size = h.size }
 
-  pub not_going : (x : Step) → s.going ≡ false → Stepped p ds vs fs s x stopped
+  pub not_going : (x : Step) → s.going ≡ false → Stepped p ds vs s x stopped
   unfolding outcome
   not_going x e = record { held = held-still; same = λ xs. rw e }
 
-  pub not-fitting : (x : Step) → s.left < x.stay → Stepped p ds vs fs s x stopped
+  pub not-fitting : (x : Step) → s.left < x.stay → Stepped p ds vs s x stopped
   unfolding outcome score_from
   not-fitting x l =
-      let B = ahead p.channels ds (readings vs fs) s.piece s.used in
+      let B = ahead p.channels ds vs s.piece s.used in
       let long = h.left in
-      record { held = held-still; same = λ xs. rw (lt-leb x.stay (length B) (omega arith)) (none_of s.going (can_step p s.place s.clocks x) _ _) }
+      record { held = held-still; same = λ xs. rw (lt-leb x.stay (length B) (omega arith)) (none_of s.going (can_step p s.place s.clocks x) _) }
     where
-      none_of : (a b q : Bool) (o : Option ℤ) → none ≡ cond a (cond (b && false && q) o none) none
-      none_of true true q o = refl
-      none_of true false q o = refl
-      none_of false b q o = refl
+      none_of : (a b : Bool) (o : Option ℤ) → none ≡ cond a (cond (b && false) o none) none
+      none_of true true o = refl
+      none_of true false o = refl
+      none_of false b o = refl
 
-  pub not_able : (x : Step) → can_step p s.place s.clocks x ≡ false → Stepped p ds vs fs s x stopped
+  pub not_able : (x : Step) → can_step p s.place s.clocks x ≡ false → Stepped p ds vs s x stopped
   unfolding outcome score_from
   not_able x e =
       record { held = held-still; same = λ xs. rw e (none_of s.going) }

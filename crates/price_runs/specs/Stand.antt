@@ -8,14 +8,11 @@ use Rattle.pattern.specs.declared.Pattern.{Pattern}
 use Rattle.pattern.specs.InUse.{place_at, edge_at}
 use Rattle.pattern.specs.Kinds.{is_end}
 use Rattle.pattern.specs.Clocks.{Clocks, clock_at, guards_hold}
-use Rattle.pattern.specs.Distance.{Values}
+use Rattle.pattern.specs.Distance.{place_worth}
 use Rattle.pattern.specs.Sound.{sound_of}
 use Rattle.price_runs.specs.declared.Stand.{Stand}
-use Rattle.record.specs.Reading.{Reading, readings, read_sound}
 use Rattle.record.specs.Record.{Book, record_sound}
 use Rattle.record.specs.Joined.{agrees, joined}
-use Rattle.record.specs.Stay.{stay_open}
-use Rattle.record.specs.Worth.{worth_in}
 use Rattle.record.specs.Run.{Step, can_step, clocks_after}
 use Rattle.price_stays.specs.Walk.{Stands, ahead}
 
@@ -27,33 +24,31 @@ Room cs n = (k : ℕ) → clock_at cs k + n < 2 ^ 32
 abbrev pub can_leave : Edge → (place stay : ℕ) → Clocks → Bool
 can_leave e k n cs = eqb e.from k && leb 1 n && guards_hold cs e
 
--- What steps come to from a place on, with the worth so far and the ticks that lie ahead: nothing where a step cannot be made,
--- the ticks do not last, or the place cannot be stayed in (document 02, R-7).
+-- What steps come to from a place on, with the worth so far and the ticks that lie ahead.
 unfoldable pub score_from : Pattern → Book → (worth : ℤ) → (place : ℕ) → Clocks → List Step → Option ℤ
 score_from p b a k cs [] = cond (is_end (place_at p k).kind) (some a) none
 score_from p b a k cs (x ∷ xs) =
-    cond (can_step p k cs x && leb x.stay (length b) && stay_open p b (edge_at p x.edge).from 0 x.stay)
+    cond (can_step p k cs x && leb x.stay (length b))
     (score_from p (drop x.stay b)
-    (combine_from (weighting_of p.weighing) a (map (worth_in p.weighing (place_at p (edge_at p x.edge).from)) (joined (agrees (place_at p (edge_at p x.edge).from)) (take x.stay b))))
+    (combine_from (weighting_of p.weighing) a (map (place_worth p.weighing (place_at p (edge_at p x.edge).from)) (joined (agrees (place_at p (edge_at p x.edge).from)) (take x.stay b))))
     (edge_at p x.edge).to
     (clocks_after p cs x)
     xs)
     none
 
 -- The same from where the code stands.
-unfoldable pub outcome : Pattern → (durations : List ℕ) → (readings : List Reading) → Stand → List Step → Option ℤ
-outcome p ds rs s xs =
+unfoldable pub outcome : Pattern → (durations : List ℕ) → (values : List ℤ) → Stand → List Step → Option ℤ
+outcome p ds vs s xs =
     cond s.going
-    (score_from p (ahead p.channels ds rs s.piece s.used) s.worth s.place s.clocks xs)
+    (score_from p (ahead p.channels ds vs s.piece s.used) s.worth s.place s.clocks xs)
     none
 
 -- What holds between the steps. No clock is past the ticks so far, and each tick so far brought at most one observation.
-pub record Held (p : Pattern) (durations : List ℕ) (values : Values) (flags : List ℕ) (s : Stand) : Type 0 where
+pub record Held (p : Pattern) (durations : List ℕ) (values : List ℤ) (s : Stand) : Type 0 where
   pub sound : sound_of p ≡ true
   pub kept : record_sound p.channels durations values ≡ true
-  pub lent : read_sound values flags ≡ true
   pub stands : Stands durations s.piece s.used
-  pub left : s.left ≡ length (ahead p.channels durations (readings values flags) s.piece s.used)
+  pub left : s.left ≡ length (ahead p.channels durations values s.piece s.used)
   pub clocks : (k : ℕ) → clock_at s.clocks k + s.left ≤ 2_147_483_647
   pub size : nat_abs s.worth + 8_000_000 * s.left ≤ 2 ^ 60
 
@@ -64,11 +59,11 @@ pub record Able (p : Pattern) (s : Stand) (x : Step) : Type 0 where
   pub fits : x.stay ≤ s.left
 
 -- From s to r by a step, made or not: the outcome of the steps that follow is that of all steps from s.
-pub record Stepped (p : Pattern) (durations : List ℕ) (values : Values) (flags : List ℕ) (s : Stand) (x : Step) (r : Stand) : Type 0 where
-  pub held : Held p durations values flags r
-  pub same : (xs : List Step) → outcome p durations (readings values flags) r xs ≡ outcome p durations (readings values flags) s (x ∷ xs)
+pub record Stepped (p : Pattern) (durations : List ℕ) (values : List ℤ) (s : Stand) (x : Step) (r : Stand) : Type 0 where
+  pub held : Held p durations values r
+  pub same : (xs : List Step) → outcome p durations values r xs ≡ outcome p durations values s (x ∷ xs)
 
 -- The same by many steps.
-pub record Ran (p : Pattern) (durations : List ℕ) (values : Values) (flags : List ℕ) (s : Stand) (xs : List Step) (r : Stand) : Type 0 where
-  pub held : Held p durations values flags r
-  pub same : (ys : List Step) → outcome p durations (readings values flags) r ys ≡ outcome p durations (readings values flags) s (xs ++ ys)
+pub record Ran (p : Pattern) (durations : List ℕ) (values : List ℤ) (s : Stand) (xs : List Step) (r : Stand) : Type 0 where
+  pub held : Held p durations values r
+  pub same : (ys : List Step) → outcome p durations values r ys ≡ outcome p durations values s (xs ++ ys)

@@ -41,22 +41,20 @@ fn can_leave(e: Edge, place: u8, stay: u32, clocks: [u32; 4]) -> bool
     (e.from == place) & (1 <= stay) & guards_hold(e, clocks)
 }
 
-// A step that can be made: the stay, then the edge, which leaves the clocks as they are given. Where the place cannot be stayed in
-// to the stay's end the run goes no further (document 02, R-7).
+// A step that can be made: the stay, then the edge, which leaves the clocks as they are given.
 fn take_step(
     p: Pattern,
     durations: &[u32],
     values: &[i32],
-    read: &[u8],
     s: Stand,
     edge: u32,
     stay: u32,
     clocks: [u32; 4],
 ) -> Stand
-    requires held { Held p durations.now values.now read.now s }
+    requires held { Held p durations.now values.now s }
     requires able { Able p s (record { edge = edge; stay = stay }) }
     requires clocks_value { clocks ≡ clocks_after p s.clocks (record { edge = edge; stay = stay }) }
-    ensures { Stepped p durations.now values.now read.now s
+    ensures { Stepped p durations.now values.now s
         (record { edge = edge; stay = stay }) result }
 {
     let k = edge as usize;
@@ -69,11 +67,10 @@ fn take_step(
         used: s.used,
         left: stay,
         worth: s.worth,
-        read: true,
     };
-    let there = stay_in(w, l, p.channels as usize, durations, values, read, walk);
+    let there = stay_in(w, l, p.channels as usize, durations, values, walk);
     Stand {
-        going: there.read,
+        going: true,
         place: e.to,
         clocks: clocks,
         piece: there.piece,
@@ -85,17 +82,9 @@ fn take_step(
 
 // One step, if it can be made and the record has its ticks. The guards are tried on the clocks as the stay leaves them; the
 // resets come after.
-fn step(
-    p: Pattern,
-    durations: &[u32],
-    values: &[i32],
-    read: &[u8],
-    s: Stand,
-    edge: u32,
-    stay: u32,
-) -> Stand
-    requires { Held p durations.now values.now read.now s }
-    ensures { Stepped p durations.now values.now read.now s
+fn step(p: Pattern, durations: &[u32], values: &[i32], s: Stand, edge: u32, stay: u32) -> Stand
+    requires { Held p durations.now values.now s }
+    ensures { Stepped p durations.now values.now s
         (record { edge = edge; stay = stay }) result }
 {
     let c = s.clocks;
@@ -107,7 +96,7 @@ fn step(
                 let ticked = grown(c, stay);
                 let reset = after_resets(e, ticked);
                 if can_leave(e, s.place, stay, ticked) {
-                    return take_step(p, durations, values, read, s, edge, stay, reset);
+                    return take_step(p, durations, values, s, edge, stay, reset);
                 }
             }
         }
@@ -128,20 +117,19 @@ pub fn run(
     p: Pattern,
     durations: &[u32],
     values: &[i32],
-    read: &[u8],
     s: Stand,
     edges: &[u32],
     stays: &[u32],
 ) -> Stand
-    requires held { Held p durations.now values.now read.now s }
+    requires held { Held p durations.now values.now s }
     requires edges_len { length edges.now ≡ length stays.now }
-    ensures { Ran p durations.now values.now read.now s
+    ensures { Ran p durations.now values.now s
         (steps_of edges.now stays.now) result }
 {
     let mut at = s;
     let mut i: usize = 0;
     while i < edges.len() {
-        at = step(p, durations, values, read, at, edges[i], stays[i]);
+        at = step(p, durations, values, at, edges[i], stays[i]);
         i += 1;
     }
     at

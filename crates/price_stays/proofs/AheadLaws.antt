@@ -7,8 +7,9 @@ use mathlib.Core.Option.{Option, none, some}
 use mathlib.Core.Bool.{cond}
 use lib.ListN.{length, take, drop, get_or, replicate, length-append, length-replicate, drop_of_length-le}
 use lib.Seq.{drop-nil, drop-append-le, drop-drop, drop_at, take-append-le}
+use lib.IntN.{ℤ}
 use Rattle.pattern.specs.declared.Place.{Place}
-use Rattle.record.specs.Reading.{Reading, Sample}
+use Rattle.pattern.specs.Distance.{Sample}
 use Rattle.record.specs.Record.{Book, ticks_of, pieces_of, sample_at}
 use Rattle.record.specs.Joined.{agrees, joined, fresh_after}
 use Rattle.record.proofs.ListLaws.{drop-replicate, take-replicate}
@@ -31,50 +32,50 @@ new_stretch l (some p) m x b = rw (fresh_same (agrees l) m x b (agrees-self l x)
 
 -- ---- where it stands
 
-module _ (n : ℕ) (ds : List ℕ) (rs : List Reading) where
+module _ (n : ℕ) (ds : List ℕ) (vs : List ℤ) where
   -- the ticks ahead: those of the piece, and then those from the next piece on
   pub ahead-piece : (i u : ℕ) → i < length ds → u ≤ get_or ds i 0
-      → ahead n ds rs i u ≡ replicate (get_or ds i 0 - u) (sample_at n rs i) ++ ahead n ds rs (suc i) 0
+      → ahead n ds vs i u ≡ replicate (get_or ds i 0 - u) (sample_at n vs i) ++ ahead n ds vs (suc i) 0
   unfolding ahead ticks_of
   ahead-piece i u h k =
       let d = get_or ds i 0 in
-      let s = sample_at n rs i in
-      let t = ticks_of (drop (suc i) (pieces_of n ds rs)) in
-      rw (piece-at n i ds rs h)
+      let s = sample_at n vs i in
+      let t = ticks_of (drop (suc i) (pieces_of n ds vs)) in
+      rw (piece-at n i ds vs h)
       (drop-append-le u (replicate d s) t (let e = length-replicate d s in omega arith)
       ∙ ap (λ (b : Book). b ++ t) (drop-replicate u d s k))
 
-  pub ahead-on : (i u m : ℕ) → drop m (ahead n ds rs i u) ≡ ahead n ds rs i (u + m)
+  pub ahead-on : (i u m : ℕ) → drop m (ahead n ds vs i u) ≡ ahead n ds vs i (u + m)
   unfolding ahead
-  ahead-on i u m = drop-drop m u (ticks_of (drop i (pieces_of n ds rs)))
+  ahead-on i u m = drop-drop m u (ticks_of (drop i (pieces_of n ds vs)))
 
   pub ahead-next : (i u : ℕ) → i < length ds → u ≤ get_or ds i 0
-      → drop (get_or ds i 0 - u) (ahead n ds rs i u) ≡ ahead n ds rs (suc i) 0
+      → drop (get_or ds i 0 - u) (ahead n ds vs i u) ≡ ahead n ds vs (suc i) 0
   ahead-next i u h k =
       rw (ahead-piece i u h k)
-      (drop_at (replicate (get_or ds i 0 - u) (sample_at n rs i)) (ahead n ds rs (suc i) 0) (get_or ds i 0 - u) (length-replicate (get_or ds i 0 - u) (sample_at n rs i)))
+      (drop_at (replicate (get_or ds i 0 - u) (sample_at n vs i)) (ahead n ds vs (suc i) 0) (get_or ds i 0 - u) (length-replicate (get_or ds i 0 - u) (sample_at n vs i)))
 
   -- the first ticks ahead are the piece's
   pub ahead-take : (i u m : ℕ) → i < length ds → u ≤ get_or ds i 0 → m ≤ get_or ds i 0 - u
-      → take m (ahead n ds rs i u) ≡ replicate m (sample_at n rs i)
+      → take m (ahead n ds vs i u) ≡ replicate m (sample_at n vs i)
   ahead-take i u m h k l =
       let d = get_or ds i 0 - u in
-      let s = sample_at n rs i in
+      let s = sample_at n vs i in
       rw (ahead-piece i u h k)
-      (take-append-le m (replicate d s) (ahead n ds rs (suc i) 0) (let e = length-replicate d s in omega arith)
+      (take-append-le m (replicate d s) (ahead n ds vs (suc i) 0) (let e = length-replicate d s in omega arith)
       ∙ take-replicate m d s l)
 
   pub ahead-length : (i u : ℕ) → i < length ds → u ≤ get_or ds i 0
-      → length (ahead n ds rs i u) ≡ (get_or ds i 0 - u) + length (ahead n ds rs (suc i) 0)
+      → length (ahead n ds vs i u) ≡ (get_or ds i 0 - u) + length (ahead n ds vs (suc i) 0)
   ahead-length i u h k =
       let d = get_or ds i 0 - u in
-      let s = sample_at n rs i in
+      let s = sample_at n vs i in
       ap length (ahead-piece i u h k)
-      ∙ length-append (replicate d s) (ahead n ds rs (suc i) 0)
-      ∙ ap (λ (m : ℕ). m + length (ahead n ds rs (suc i) 0)) (length-replicate d s)
+      ∙ length-append (replicate d s) (ahead n ds vs (suc i) 0)
+      ∙ ap (λ (m : ℕ). m + length (ahead n ds vs (suc i) 0)) (length-replicate d s)
 
   -- past the last piece there are no ticks
-  pub ahead_none : (i u : ℕ) → length ds ≤ i → ahead n ds rs i u ≡ []
+  pub ahead_none : (i u : ℕ) → length ds ≤ i → ahead n ds vs i u ≡ []
   unfolding ahead ticks_of pieces_of
   ahead_none i u h =
-      rw (drop_pieces n i ds rs, drop_of_length-le ds {i = i} h) (drop-nil u)
+      rw (drop_pieces n i ds vs, drop_of_length-le ds {i = i} h) (drop-nil u)

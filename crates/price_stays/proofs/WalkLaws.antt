@@ -1,11 +1,11 @@
--- A stay that goes through one piece: where it ends, what it is worth there and whether it can be made stay the same.
+-- A stay that goes through one piece: what it is worth at its end and where that is stay the same.
 use Prim.Native.Nat.{ℕ, zero, suc, ◌+◌, ◌-◌, ◌*◌, ◌^◌, ◌≤◌, ◌<◌, min}
 use native.Mathlib.Numerals.{add-one}
 use native.Mathlib.Omega.{arith}
 use mathlib.Core.Path.{◌≡◌, refl, sym, ap, ◌∙◌}
 use mathlib.Core.List.{List, [], ◌∷◌, ◌++◌, map}
 use mathlib.Core.Option.{Option, some}
-use mathlib.Core.Bool.{Bool, true, false, cond, ◌&&◌, and-true, and_self, and_assoc}
+use mathlib.Core.Bool.{Bool, true, false, cond}
 use borrow.Author.Tests.{lt-ltb, le-ltb, ltb-true, ltb-false}
 use lib.Dec.{ltb}
 use lib.ListN.{length, take, drop, get_or, replicate}
@@ -17,18 +17,14 @@ use Rattle.weighting.specs.Weighting.{Weighting, combine_from}
 use Rattle.weighting.specs.Weightings.{weighting_of}
 use Rattle.weighting.proofs.Sizes.{combine-size}
 use Rattle.pattern.specs.declared.Place.{Place}
-use Rattle.pattern.specs.Slots.{all}
-use Rattle.pattern.specs.Distance.{Values}
-use Rattle.pattern.proofs.SlotLaws.{all_append}
+use Rattle.pattern.specs.Distance.{Sample, place_worth}
 use Rattle.price_stays.specs.declared.Walk.{Walk}
-use Rattle.record.specs.Reading.{Reading, Sample, readings}
-use Rattle.record.specs.Record.{Book, value_in_range, sample_at}
-use Rattle.record.specs.Stay.{can_stay}
-use Rattle.record.specs.Worth.{worth_in}
-use Rattle.price_stays.specs.Walk.{ahead, new_to, joins_to, seen_at, with_piece, Observes, Walks, to_come, read_through, Turned, Stayed}
-use Rattle.price_stays.proofs.AheadLaws.{new-nothing, new_stretch, ahead-on, ahead-next, ahead-take, ahead-length, ahead_none}
+use Rattle.record.specs.Record.{Book, value_in_range}
+use Rattle.record.specs.Record.{sample_at}
+use Rattle.price_stays.specs.Walk.{ahead, new_to, joins_to, seen_at, with_piece, Observes, Walks, to_come, Turned, Stayed}
+use Rattle.price_stays.proofs.AheadLaws.{new-nothing, new_stretch}
+use Rattle.price_stays.proofs.AheadLaws.{ahead-on, ahead-next, ahead-take, ahead-length, ahead_none}
 use Rattle.record.proofs.ListLaws.{all_take, all_drop, get_d_any}
-use Rattle.record.proofs.ReadingLaws.{sample-values}
 use Rattle.record.proofs.RecordLaws.{sample-within, parts, lasts-at}
 
 -- ---- over plain lists
@@ -52,37 +48,16 @@ module _ (W : Weighting ℤ) (l : Place) (f : Sample → ℤ) where
       split : take (suc m + k) b ≡ replicate (suc m) x ++ take k (drop (suc m) b)
       split = take-add (suc m) k b ∙ ap (λ (ys : Book). ys ++ take k (drop (suc m) b)) e
 
-module _ (f : Sample → Bool) where
-  -- a test of equal ticks is that of one
-  all_same : (m : ℕ) (x : Sample) → all f (replicate (suc m) x) ≡ f x
-  all_same zero x = and-true (f x)
-  all_same (suc m) x = ap (◌&&◌ (f x)) (all_same m x) ∙ and_self (f x)
-
-  -- m ticks of one sample, and k that follow
-  pub stretch_all : (r : Bool) (x : Sample) (m k : ℕ) (b : Book) → 0 < m → take m b ≡ replicate m x
-      → (r && f x) && all f (take k (drop m b)) ≡ r && all f (take (m + k) b)
-  stretch_all r x zero k b h e = absurd (omega arith)
-  stretch_all r x (suc m) k b h e =
-      let rest = take k (drop (suc m) b) in
-      and_assoc r (f x) (all f rest)
-      ∙ ap (◌&&◌ r)
-      (ap (λ (t : Bool). t && all f rest) (sym (ap (all f) e ∙ all_same m x))
-      ∙ sym (all_append f (take (suc m) b) rest)
-      ∙ ap (all f) (sym (take-add (suc m) k b)))
-
 -- ---- a turn
 
-module _ (w : Weighing) (l : Place) (n : ℕ) (ds : List ℕ) (vs : Values) (fs : List ℕ) (first : ℕ) (s : Walk) (h : Walks w l n ds vs fs first s) (some_left : 0 < s.left) where
-  abbrev rs : List Reading
-  rs = readings vs fs
-
+module _ (w : Weighing) (l : Place) (n : ℕ) (ds : List ℕ) (vs : List ℤ) (first : ℕ) (s : Walk) (h : Walks w l n ds vs first s) (some_left : 0 < s.left) where
   pub inside : s.piece < length ds
   inside = by (ltb s.piece (length ds)) refl
     where
       by : (t : Bool) → ltb s.piece (length ds) ≡ t → s.piece < length ds
       by true e = ltb-true s.piece (length ds) e
       by false e =
-          let z = ap length (ahead_none n ds rs s.piece s.used (ltb-false s.piece (length ds) e)) in
+          let z = ap length (ahead_none n ds vs s.piece s.used (ltb-false s.piece (length ds) e)) in
           absurd (omega (arith, h.enough))
 
   pub below : s.used < get_or ds s.piece 0
@@ -90,79 +65,71 @@ module _ (w : Weighing) (l : Place) (n : ℕ) (ds : List ℕ) (vs : Values) (fs 
 
   -- the worth once the piece is observed
   unfoldable pub next : ℤ
-  next = with_piece w l n rs first s.piece s.worth
+  next = with_piece w l n vs first s.piece s.worth
 
-  mild-here : nat_abs (worth_in w l (sample_at n rs s.piece)) ≤ 8000000
+  mild-here : nat_abs (place_worth w l (sample_at n vs s.piece)) ≤ 8000000
+  unfolding sample_at
   mild-here =
-      rw (sample-values n s.piece vs fs h.lent)
-      (h.mild (take n (drop (s.piece * n) vs)) (all_take value_in_range n (drop (s.piece * n) vs) (all_drop value_in_range (s.piece * n) vs (parts n ds vs h.sound).values)))
+      h.mild (sample_at n vs s.piece) (all_take value_in_range n (drop (s.piece * n) vs) (all_drop value_in_range (s.piece * n) vs (parts n ds vs h.sound).values))
 
-  pub observes : Observes w l n vs fs s.piece s.worth
+  pub observes : Observes w l n vs s.piece s.worth
   observes =
       record {
         part = let e = (parts n ds vs h.sound).agree in omega (arith, sample-within s.piece (length ds) n inside);
-        lent = h.lent;
         fits =
-            abs_fits_64 ((weighting_of w).combine s.worth (worth_in w l (sample_at n rs s.piece))) (2 ^ 61)
-            (let k = h.size in omega (arith, mild-here, combine-size w s.worth (worth_in w l (sample_at n rs s.piece))))
+            abs_fits_64 ((weighting_of w).combine s.worth (place_worth w l (sample_at n vs s.piece))) (2 ^ 61)
+            (let k = h.size in omega (arith, mild-here, combine-size w s.worth (place_worth w l (sample_at n vs s.piece))))
             (omega arith);
       }
 
-  -- whether the place can be stayed in so far, the piece included
-  abbrev reads_all : Bool
-  reads_all = s.read && can_stay l (sample_at n rs s.piece)
-
   next-size : nat_abs next ≤ nat_abs s.worth + 8000000
   unfolding next
-  next-size = by (joins_to l (seen_at n rs first s.piece) (sample_at n rs s.piece))
+  next-size = by (joins_to l (seen_at n vs first s.piece) (sample_at n vs s.piece))
     where
-      by : (t : Bool) → nat_abs (cond t s.worth ((weighting_of w).combine s.worth (worth_in w l (sample_at n rs s.piece)))) ≤ nat_abs s.worth + 8000000
+      by : (t : Bool) → nat_abs (cond t s.worth ((weighting_of w).combine s.worth (place_worth w l (sample_at n vs s.piece)))) ≤ nat_abs s.worth + 8000000
       by true = omega arith
-      by false = omega (arith, mild-here, combine-size w s.worth (worth_in w l (sample_at n rs s.piece)))
+      by false = omega (arith, mild-here, combine-size w s.worth (place_worth w l (sample_at n vs s.piece)))
 
   -- the stay ends in the piece
   ends : s.left < get_or ds s.piece 0 - s.used
-      → Turned w l n ds rs first s (record { piece = s.piece; used = s.used + s.left; left = 0; worth = next; read = reads_all })
+      → Turned w l n ds vs first s (record { piece = s.piece; used = s.used + s.left; left = 0; worth = next })
   unfolding to_come next
   ends short =
-      let B = ahead n ds rs s.piece s.used in
-      let o = seen_at n rs first s.piece in
-      let x = sample_at n rs s.piece in
-      let nothing : new_to l o (take 0 (ahead n ds rs s.piece (s.used + s.left))) ≡ new_to l (some x) (take 0 (drop s.left B)) = new-nothing l o ∙ sym (new-nothing l (some x)) in
+      let B = ahead n ds vs s.piece s.used in
+      let o = seen_at n vs first s.piece in
+      let x = sample_at n vs s.piece in
+      let nothing : new_to l o (take 0 (ahead n ds vs s.piece (s.used + s.left))) ≡ new_to l (some x) (take 0 (drop s.left B)) = new-nothing l o ∙ sym (new-nothing l (some x)) in
       let all_of : s.left + 0 ≡ s.left = omega arith in
       record {
         stands = record { inside = omega (arith, inside); below = let e = get_d_any ds s.piece 0 1 inside in omega arith };
         onward = h.onward;
         less = omega arith;
-        rest = sym (ahead-on n ds rs s.piece s.used s.left);
+        rest = sym (ahead-on n ds vs s.piece s.used s.left);
         enough = omega arith;
         worth =
-            ap (λ (l' : List Sample). combine_from (weighting_of w) next (map (worth_in w l) l')) nothing
-            ∙ stretch_worth (weighting_of w) l (worth_in w l) o s.worth x s.left 0 B some_left (ahead-take n ds rs s.piece s.used s.left inside (omega (arith, below)) (omega arith))
-            ∙ ap (λ (k : ℕ). combine_from (weighting_of w) s.worth (map (worth_in w l) (new_to l o (take k B)))) all_of;
-        through =
-            stretch_all (can_stay l) s.read x s.left 0 B some_left (ahead-take n ds rs s.piece s.used s.left inside (omega (arith, below)) (omega arith))
-            ∙ ap (λ (k : ℕ). s.read && all (can_stay l) (take k B)) all_of;
+            ap (λ (l' : List Sample). combine_from (weighting_of w) next (map (place_worth w l) l')) nothing
+            ∙ stretch_worth (weighting_of w) l (place_worth w l) o s.worth x s.left 0 B some_left (ahead-take n ds vs s.piece s.used s.left inside (omega (arith, below)) (omega arith))
+            ∙ ap (λ (k : ℕ). combine_from (weighting_of w) s.worth (map (place_worth w l) (new_to l o (take k B)))) all_of;
         size = omega (arith, next-size);
       }
 
   -- the stay goes on in the next piece
   moves : get_or ds s.piece 0 - s.used ≤ s.left
-      → Turned w l n ds rs first s (record { piece = s.piece + 1; used = 0; left = s.left - (get_or ds s.piece 0 - s.used); worth = next; read = reads_all })
+      → Turned w l n ds vs first s (record { piece = s.piece + 1; used = 0; left = s.left - (get_or ds s.piece 0 - s.used); worth = next })
   unfolding to_come next seen_at
   moves long =
       let i = s.piece in
-      let B = ahead n ds rs i s.used in
+      let B = ahead n ds vs i s.used in
       let m = get_or ds i 0 - s.used in
       let k = s.left - m in
-      let o = seen_at n rs first i in
-      let x = sample_at n rs i in
+      let o = seen_at n vs first i in
+      let x = sample_at n vs i in
       let i-next : i + 1 ≡ suc i = add-one i in
       let back : i + 1 - 1 ≡ i = omega arith in
       let on : first < i + 1 = let e = h.onward in omega arith in
       let all_of : m + k ≡ s.left = omega arith in
-      let there : drop m B ≡ ahead n ds rs (i + 1) 0 = rw i-next (ahead-next n ds rs i s.used inside (omega (arith, below))) in
-      let long-is : length B ≡ m + length (ahead n ds rs (i + 1) 0) = rw i-next (ahead-length n ds rs i s.used inside (omega (arith, below))) in
+      let there : drop m B ≡ ahead n ds vs (i + 1) 0 = rw i-next (ahead-next n ds vs i s.used inside (omega (arith, below))) in
+      let long-is : length B ≡ m + length (ahead n ds vs (i + 1) 0) = rw i-next (ahead-length n ds vs i s.used inside (omega (arith, below))) in
       record {
         stands = record { inside = omega (arith, inside); below = lasts-at ds (i + 1) (parts n ds vs h.sound).lasting };
         onward = omega arith;
@@ -171,50 +138,44 @@ module _ (w : Weighing) (l : Place) (n : ℕ) (ds : List ℕ) (vs : Values) (fs 
         enough = let e = h.enough in omega arith;
         worth =
             rw (lt-ltb first (i + 1) on, back, ← there)
-            (stretch_worth (weighting_of w) l (worth_in w l) o s.worth x m k B (omega (arith, below)) (ahead-take n ds rs i s.used m inside (omega (arith, below)) (omega arith))
-            ∙ ap (λ (j : ℕ). combine_from (weighting_of w) s.worth (map (worth_in w l) (new_to l o (take j B)))) all_of);
-        through =
-            rw (← there)
-            (stretch_all (can_stay l) s.read x m k B (omega (arith, below)) (ahead-take n ds rs i s.used m inside (omega (arith, below)) (omega arith))
-            ∙ ap (λ (j : ℕ). s.read && all (can_stay l) (take j B)) all_of);
+            (stretch_worth (weighting_of w) l (place_worth w l) o s.worth x m k B (omega (arith, below)) (ahead-take n ds vs i s.used m inside (omega (arith, below)) (omega arith))
+            ∙ ap (λ (j : ℕ). combine_from (weighting_of w) s.worth (map (place_worth w l) (new_to l o (take j B)))) all_of);
         size = omega (arith, next-size, below);
       }
 
   -- m ticks of the piece are taken: all that the stay wants, or all that the piece has left
-  module _ (m : ℕ) (is : m ≡ min s.left (get_or ds s.piece 0 - s.used)) (q : Bool) (read_is : q ≡ reads_all) where
+  module _ (m : ℕ) (is : m ≡ min s.left (get_or ds s.piece 0 - s.used)) where
     pub taken-within : m < get_or ds s.piece 0 - s.used
-        → Turned w l n ds rs first s (record { piece = s.piece; used = s.used + m; left = s.left - m; worth = next; read = q })
+        → Turned w l n ds vs first s (record { piece = s.piece; used = s.used + m; left = s.left - m; worth = next })
     taken-within short =
         let all_of : m ≡ s.left = omega arith in
         let none_left : s.left - s.left ≡ 0 = omega arith in
-        rw (all_of, none_left, read_is) (ends (omega arith))
+        rw (all_of, none_left) (ends (omega arith))
 
     pub taken-whole : get_or ds s.piece 0 - s.used ≤ m
-        → Turned w l n ds rs first s (record { piece = s.piece + 1; used = 0; left = s.left - m; worth = next; read = q })
+        → Turned w l n ds vs first s (record { piece = s.piece + 1; used = 0; left = s.left - m; worth = next })
     taken-whole long =
         let all_of : m ≡ get_or ds s.piece 0 - s.used = omega arith in
-        rw (all_of, read_is) (moves (omega arith))
+        rw all_of (moves (omega arith))
 
 -- ---- turn after turn
 
 -- so far: where the stay stands, and that it will end as it would have ended
-pub record Far (w : Weighing) (l : Place) (n : ℕ) (ds : List ℕ) (vs : Values) (fs : List ℕ) (first : ℕ) (s r : Walk) : Type 0 where
-  pub walks : Walks w l n ds vs fs first r
-  pub rest : drop r.left (ahead n ds (readings vs fs) r.piece r.used) ≡ drop s.left (ahead n ds (readings vs fs) s.piece s.used)
-  pub worth : to_come w l n ds (readings vs fs) first r ≡ to_come w l n ds (readings vs fs) first s
-  pub through : read_through l n ds (readings vs fs) r ≡ read_through l n ds (readings vs fs) s
+pub record Far (w : Weighing) (l : Place) (n : ℕ) (ds : List ℕ) (vs : List ℤ) (first : ℕ) (s r : Walk) : Type 0 where
+  pub walks : Walks w l n ds vs first r
+  pub rest : drop r.left (ahead n ds vs r.piece r.used) ≡ drop s.left (ahead n ds vs s.piece s.used)
+  pub worth : to_come w l n ds vs first r ≡ to_come w l n ds vs first s
   pub size : nat_abs r.worth + 8000000 * r.left ≤ nat_abs s.worth + 8000000 * s.left
 
-module _ (w : Weighing) (l : Place) (n : ℕ) (ds : List ℕ) (vs : Values) (fs : List ℕ) (first : ℕ) (s : Walk) where
-  pub far_none : Walks w l n ds vs fs first s → Far w l n ds vs fs first s s
-  far_none h = record { walks = h; rest = refl; worth = refl; through = refl; size = omega arith }
+module _ (w : Weighing) (l : Place) (n : ℕ) (ds : List ℕ) (vs : List ℤ) (first : ℕ) (s : Walk) where
+  pub far_none : Walks w l n ds vs first s → Far w l n ds vs first s s
+  far_none h = record { walks = h; rest = refl; worth = refl; size = omega arith }
 
-  pub far-more : (r t : Walk) → Far w l n ds vs fs first s r → Turned w l n ds (readings vs fs) first r t → Far w l n ds vs fs first s t
+  pub far-more : (r t : Walk) → Far w l n ds vs first s r → Turned w l n ds vs first r t → Far w l n ds vs first s t
   far-more r t f h =
       record {
         walks = record {
           sound = f.walks.sound;
-          lent = f.walks.lent;
           mild = f.walks.mild;
           stands = h.stands;
           onward = h.onward;
@@ -223,22 +184,20 @@ module _ (w : Weighing) (l : Place) (n : ℕ) (ds : List ℕ) (vs : Values) (fs 
         };
         rest = h.rest ∙ f.rest;
         worth = h.worth ∙ f.worth;
-        through = h.through ∙ f.through;
         size = let a = f.size in let b = h.size in omega arith;
       }
 
-  pub far-all : (r : Walk) → s.piece ≡ first → Far w l n ds vs fs first s r → r.left ≡ 0 → Stayed w l n ds (readings vs fs) s r
+  pub far-all : (r : Walk) → s.piece ≡ first → Far w l n ds vs first s r → r.left ≡ 0 → Stayed w l n ds vs s r
   unfolding to_come seen_at new_to combine_from
   far-all r e f z =
-      let o = seen_at n (readings vs fs) first r.piece in
-      let nothing : new_to l o (take r.left (ahead n ds (readings vs fs) r.piece r.used)) ≡ [] = rw z (new-nothing l o) in
+      let o = seen_at n vs first r.piece in
+      let nothing : new_to l o (take r.left (ahead n ds vs r.piece r.used)) ≡ [] = rw z (new-nothing l o) in
       record {
         stands = f.walks.stands;
         rest = rw z at f.rest;
         worth =
-            sym (ap (λ (b : List Sample). combine_from (weighting_of w) r.worth (map (worth_in w l) b)) nothing)
+            sym (ap (λ (b : List Sample). combine_from (weighting_of w) r.worth (map (place_worth w l) b)) nothing)
             ∙ f.worth
             ∙ rw (e, le-ltb first first (omega arith));
-        through = sym (and-true r.read) ∙ (rw z at f.through);
         size = let a = f.size in omega arith;
       }

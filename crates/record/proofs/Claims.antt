@@ -23,14 +23,12 @@ use Rattle.pattern.specs.Slots.{all}
 use Rattle.pattern.specs.Kinds.{is_start, is_end}
 use Rattle.pattern.specs.Clocks.{Clocks, clock_at, zero_clocks, later, guard_holds, guards_hold}
 use Rattle.pattern.specs.InUse.{guards_of, place_at, edge_at}
-use Rattle.pattern.specs.Distance.{distances_of, place_worth}
+use Rattle.pattern.specs.Distance.{Sample, distances_of, place_worth}
 use Rattle.pattern.proofs.SoundLaws.{both}
-use Rattle.record.specs.Reading.{Sample, values_of}
 use Rattle.record.specs.Record.{Piece, Book, ticks_of}
 use Rattle.record.specs.Joined.{agrees, observed}
 use Rattle.record.specs.Run.{Step, can_step, clocks_after, goes, is_run, end_of, length_of}
-use Rattle.record.specs.Stay.{stay_open, stays_open}
-use Rattle.record.specs.Worth.{worth_in, stay_worth, stay_worths, run_worth, price_of}
+use Rattle.record.specs.Worth.{stay_worth, stay_worths, run_worth, price_of}
 use Rattle.record.specs.Claims.{CutsDoNotMatter, ObservedInOrder, MarginCountsTicks, AgreeingWorths, distances_in, MarginIsLeastDistance, SameRuns, OnlyPlacesLeftSpeak, EndPlaceIsSilent, ZeroGuardNeverHolds, LengthIsStays, NeverARun}
 use Rattle.record.proofs.StepLaws.{later-is, can-parts}
 use Rattle.record.proofs.JoinedLaws.{joined_fresh, margin-joined, agree-worth}
@@ -75,17 +73,17 @@ flat-from f a (x ∷ l) h =
 
 module _ (p : Pattern) (is : p.weighing ≡ Margin) where
   -- a stay: the least of its distances, at every tick
-  stay-least : (b : Book) (k t n : ℕ) → stay_worth p b k t n ≡ combine_all margin (flat_map (λ s. distances_of (place_at p k) (values_of s)) (take n (drop t b)))
+  stay-least : (b : Book) (k t n : ℕ) → stay_worth p b k t n ≡ combine_all margin (flat_map (distances_of (place_at p k)) (take n (drop t b)))
   unfolding stay_worth observed place_worth
   stay-least b k t n =
-      rw is (margin-counts-ticks Sample (agrees (place_at p k)) (worth_in Margin (place_at p k)) (agree-worth Margin (place_at p k)) (take n (drop t b)) ∙ flat-from (λ s. distances_of (place_at p k) (values_of s)) margin.unit (take n (drop t b)) margin.unit_worth)
+      rw is (margin-counts-ticks Sample (agrees (place_at p k)) (place_worth Margin (place_at p k)) (agree-worth Margin (place_at p k)) (take n (drop t b)) ∙ flat-from (distances_of (place_at p k)) margin.unit (take n (drop t b)) margin.unit_worth)
 
   stays-least : (b : Book) (t : ℕ) (xs : List Step) (a : ℤ) → T (margin.worth a)
       → combine_from margin a (stay_worths p b t xs) ≡ combine_from margin a (distances_in p b t xs)
   unfolding stay_worths distances_in combine_from
   stays-least b t [] a h = refl
   stays-least b t (x ∷ xs) a h =
-      let ds = flat_map (λ s. distances_of (place_at p (edge_at p x.edge).from) (values_of s)) (take x.stay (drop t b)) in
+      let ds = flat_map (distances_of (place_at p (edge_at p x.edge).from)) (take x.stay (drop t b)) in
       ap (λ (z : ℤ). combine_from margin z (stay_worths p b (t + x.stay) xs)) (ap (min_z a) (stay-least b (edge_at p x.edge).from t x.stay) ∙ sym (combine_from-all margin a h ds))
       ∙ stays-least b (t + x.stay) xs (combine_from margin a ds) (stays-worth-all Margin a ds h)
       ∙ sym (combine_from-append margin a ds (distances_in p b (t + x.stay) xs))
@@ -93,7 +91,7 @@ module _ (p : Pattern) (is : p.weighing ≡ Margin) where
 pub margin-is-least_distance : MarginIsLeastDistance
 unfolding run_worth
 margin-is-least_distance p b begin xs w is e =
-    sym (priced_parts p b begin xs w e).worth
+    sym (priced_parts p b begin xs w e).2
     ∙ ap (λ (v : Weighing). combine_all (weighting_of v) (stay_worths p b begin xs)) is
     ∙ stays-least p is b begin xs margin.unit margin.unit_worth
 
@@ -124,17 +122,9 @@ module _ (p q : Pattern) (h : SameRuns p q) where
   worths_same b t (x ∷ xs) e =
       rw (worths_same b (t + x.stay) xs (λ y m. e y (Memᴰ.tail m)), h.weighing, h.edges, e x (Memᴰ.head refl))
 
-  open_same : (b : Book) (t : ℕ) (xs : List Step)
-      → ((x : Step) → Memᴰ x xs → place_at q (edge_at p x.edge).from ≡ place_at p (edge_at p x.edge).from)
-      → stays_open q b t xs ≡ stays_open p b t xs
-  unfolding stays_open stay_open
-  open_same b t [] e = refl
-  open_same b t (x ∷ xs) e =
-      rw (open_same b (t + x.stay) xs (λ y m. e y (Memᴰ.tail m)), h.edges, e x (Memᴰ.head refl))
-
 pub only-places-left_speak : OnlyPlacesLeftSpeak
 unfolding price_of run_worth
-only-places-left_speak p q b begin xs h e = rw (run-same p q h xs, open_same p q h b begin xs e, worths_same p q h b begin xs e, h.weighing)
+only-places-left_speak p q b begin xs h e = rw (run-same p q h xs, worths_same p q h b begin xs e, h.weighing)
 
 -- ---- the last step
 
@@ -175,10 +165,10 @@ length-is-stays begin (x ∷ xs) =
 
 pub end-place-is_silent : EndPlaceIsSilent
 unfolding price_of run_worth
-end-place-is_silent p b begin xs x run inside opens =
+end-place-is_silent p b begin xs x run inside =
     let ys = xs ++ x ∷ [] in
     let fits : leb (begin + length_of ys) (length b) ≡ true = le-leb (begin + length_of ys) (length b) (omega (arith, length-is-stays begin ys)) in
-    rw (run, fits, opens, worths_last p b begin xs x)
+    rw (run, fits, worths_last p b begin xs x)
     (ap some (combine_from_snoc (weighting_of p.weighing) (weighting_of p.weighing).unit (stay_worths p b begin xs) (stay_worth p b (edge_at p x.edge).from (end_of begin xs) x.stay)))
 
 -- ---- patterns that never have a run

@@ -1,12 +1,10 @@
--- Joining by any test of neighbours; the test of readings; agreement in a place.
+-- Joining by any test of neighbours, and agreement in a place.
 use Prim.Native.Nat.{ℕ, zero, suc}
-use mathlib.Core.Path.{◌≡◌, refl, sym, ap, ap₂, ◌∙◌}
+use mathlib.Core.Path.{◌≡◌, refl, ap, ap₂, ◌∙◌}
 use mathlib.Core.List.{List, [], ◌∷◌, ◌++◌, map}
-use mathlib.Core.Option.{none, some}
-use mathlib.Core.Bool.{Bool, true, false, not, cond, ◌&&◌, false≢true}
-use lib.ListN.{replicate, get_or-map}
-use lib.IntN.{ℤ, pos}
-use Rattle.integers.specs.Equal.{eq_z}
+use mathlib.Core.Bool.{Bool, true, false, cond}
+use lib.ListN.{replicate}
+use lib.IntN.{ℤ}
 use Rattle.integers.specs.Least.{min_z}
 use Rattle.integers.proofs.Equal.{eq_self, eq-true}
 use Rattle.integers.proofs.Least.{min_assoc, min_self}
@@ -17,12 +15,9 @@ use Rattle.pattern.specs.declared.Test.{Test}
 use Rattle.pattern.specs.declared.Place.{Place}
 use Rattle.pattern.specs.Slots.{all}
 use Rattle.pattern.specs.InUse.{tests_of}
-use Rattle.pattern.specs.Distance.{Values, value_at, distance_of, distance_in, distances_of, place_worth}
+use Rattle.pattern.specs.Distance.{Sample, reading_of, distance_of, distance_in, distances_of, place_worth}
 use Rattle.pattern.proofs.SoundLaws.{both}
-use Rattle.record.specs.Reading.{Reading, Sample, is_read, value_of, reading_at, values_of, readings, read_sound}
-use Rattle.record.specs.Joined.{absorb, joined, fresh_after, same_reading, agree_on, agrees}
-use Rattle.record.specs.Worth.{worth_in}
-use Rattle.record.proofs.ReadingLaws.{readings-values}
+use Rattle.record.specs.Joined.{absorb, joined, fresh_after, agree_on, agrees}
 
 -- ---- joining
 
@@ -58,54 +53,24 @@ module _ {A : Type 0} (same : A → A → Bool) where
     margin-joined a [] = refl
     margin-joined a (x ∷ b) = absorbed a x (joined same b) ∙ margin-joined (min_z a (f x)) b
 
--- ---- readings
-
-pub reading-self : (r : Reading) → same_reading r r ≡ true
-reading-self none = refl
-reading-self (some v) = eq_self v
-
-pub reading-true : (r q : Reading) → same_reading r q ≡ true → r ≡ q
-reading-true none none e = refl
-reading-true none (some b) e = absurd (false≢true e)
-reading-true (some a) none e = absurd (false≢true e)
-reading-true (some a) (some b) e = ap some (eq-true a b e)
-
--- by what was read and what is held
-pub reading-parts : (x y : Reading) → same_reading x y ≡ cond (is_read x) (is_read y) (not (is_read y)) && eq_z (value_of x) (value_of y)
-reading-parts none none = sym (eq_self (pos 0))
-reading-parts none (some b) = refl
-reading-parts (some a) none = refl
-reading-parts (some a) (some b) = refl
-
--- the value that a sample holds in a channel is its reading's
-pub value-at : (x : Sample) (k : ℕ) → value_at (values_of x) k ≡ value_of (reading_at x k)
-value-at x k = get_or-map value_of x k (some (pos 0))
-
--- and so is the one that is lent for it
-pub lent-value : (vs : Values) (fs : List ℕ) (k : ℕ) → read_sound vs fs ≡ true → value_at vs k ≡ value_of (reading_at (readings vs fs) k)
-lent-value vs fs k e = ap (λ (zs : Values). value_at zs k) (sym (readings-values vs fs e)) ∙ value-at (readings vs fs) k
-
 -- ---- agreement in a place
 
 all-agree : (x : Sample) (ts : List Test) → all (agree_on x x) ts ≡ true
 all-agree x [] = refl
-all-agree x (t ∷ ts) = rw (reading-self (reading_at x t.channel), all-agree x ts)
+all-agree x (t ∷ ts) = rw (eq_self (reading_of x t.channel), all-agree x ts)
 
 pub agrees-self : (l : Place) (x : Sample) → agrees l x x ≡ true
 unfolding agrees
 agrees-self l x = all-agree x (tests_of l)
 
 -- samples that agree have the same distances
-agree_distances : (x y : Sample) (ts : List Test) → all (agree_on x y) ts ≡ true → map (distance_in (values_of x)) ts ≡ map (distance_in (values_of y)) ts
+agree_distances : (x y : Sample) (ts : List Test) → all (agree_on x y) ts ≡ true → map (distance_in x) ts ≡ map (distance_in y) ts
 agree_distances x y [] e = refl
 agree_distances x y (t ∷ ts) e =
     let h = both (agree_on x y t) (all (agree_on x y) ts) e in
-    let k = t.channel in
-    let same : value_at (values_of x) k ≡ value_at (values_of y) k =
-    value-at x k ∙ ap value_of (reading-true (reading_at x k) (reading_at y k) h.0) ∙ sym (value-at y k) in
-    ap₂ ◌∷◌ (ap (distance_of t) same) (agree_distances x y ts h.1)
+    ap₂ ◌∷◌ (ap (distance_of t) (eq-true (reading_of x t.channel) (reading_of y t.channel) h.0)) (agree_distances x y ts h.1)
 
-pub agree-worth : (w : Weighing) (l : Place) (x y : Sample) → agrees l x y ≡ true → worth_in w l x ≡ worth_in w l y
+pub agree-worth : (w : Weighing) (l : Place) (x y : Sample) → agrees l x y ≡ true → place_worth w l x ≡ place_worth w l y
 unfolding agrees place_worth distances_of
 agree-worth w l x y e = ap (combine_all (weighting_of w)) (agree_distances x y (tests_of l) e)
 
@@ -117,8 +82,8 @@ agree-alike x x' y y' (t ∷ ts) e g =
     let h = both (agree_on x x' t) (all (agree_on x x') ts) e in
     let k = both (agree_on y y' t) (all (agree_on y y') ts) g in
     rw (
-      reading-true (reading_at x t.channel) (reading_at x' t.channel) h.0,
-      reading-true (reading_at y t.channel) (reading_at y' t.channel) k.0,
+      eq-true (reading_of x t.channel) (reading_of x' t.channel) h.0,
+      eq-true (reading_of y t.channel) (reading_of y' t.channel) k.0,
       agree-alike x x' y y' ts h.1 k.1,
     )
 

@@ -1,7 +1,6 @@
--- Laws of lists, of readings, of joining, of records, of a place's worth, of steps and of prices; the claims of specs/Observed, of
--- specs/Claims, of specs/Lost and of specs/AsBefore.
+-- Laws of lists, of joining, of records, of a place's worth, of steps and of prices; the claims of specs/Observed, of specs/Claims
+-- and of specs/AsBefore.
 pub mod ListLaws
-pub mod ReadingLaws
 pub mod JoinedLaws
 pub mod RecordLaws
 pub mod PlaceLaws
@@ -9,5 +8,4 @@ pub mod Observed
 pub mod StepLaws
 pub mod PriceLaws
 pub mod Claims
-pub mod Lost
 pub mod AsBefore

@@ -1,8 +1,8 @@
--- Laws of lists that the kit and `pattern` lack: tests of all, what is read with one default or another, repeats, parts of what is mapped.
+-- Laws of lists that the kit and `pattern` lack: tests of all, what is read with one default or another, repeats.
 use Prim.Native.Nat.{ℕ, zero, suc, ◌-◌, ◌≤◌, ◌<◌}
 use native.Mathlib.Omega.{arith}
 use mathlib.Core.Path.{◌≡◌, refl, ap}
-use mathlib.Core.List.{List, [], ◌∷◌, map}
+use mathlib.Core.List.{List, [], ◌∷◌}
 use mathlib.Core.Bool.{Bool, true}
 use lib.ListN.{length, take, drop, get_or, replicate}
 use Rattle.pattern.specs.Slots.{all}
@@ -40,14 +40,3 @@ module _ {A : Type 0} where
   take-replicate zero d a h = refl
   take-replicate (suc m) zero a h = absurd (omega arith)
   take-replicate (suc m) (suc d) a h = ap (◌∷◌ a) (take-replicate m d a (omega arith))
-
-module _ {A B : Type 0} (f : A → B) where
-  pub take-map : (n : ℕ) (xs : List A) → take n (map f xs) ≡ map f (take n xs)
-  take-map zero xs = refl
-  take-map (suc n) [] = refl
-  take-map (suc n) (x ∷ xs) = ap (◌∷◌ (f x)) (take-map n xs)
-
-  pub drop-map : (n : ℕ) (xs : List A) → drop n (map f xs) ≡ map f (drop n xs)
-  drop-map zero xs = refl
-  drop-map (suc n) [] = refl
-  drop-map (suc n) (x ∷ xs) = drop-map n xs

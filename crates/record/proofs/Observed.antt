@@ -9,6 +9,7 @@ use lib.Dec.{eqb}
 use lib.ListN.{length, take, drop, get_or, length-drop}
 use lib.Seq.{get_or-take, get_or-drop, length-take-le}
 use lib.IntN.{ℤ}
+use Rattle.integers.proofs.Equal.{eq_self, eq-true}
 use Rattle.weighting.specs.declared.Weighing.{Weighing}
 use Rattle.weighting.specs.Weighting.{combine_from, combine_all}
 use Rattle.weighting.specs.Weightings.{weighting_of}
@@ -17,14 +18,14 @@ use Rattle.pattern.specs.declared.Test.{Test}
 use Rattle.pattern.specs.declared.Place.{Place}
 use Rattle.pattern.specs.Slots.{all}
 use Rattle.pattern.specs.InUse.{tests_of, place_at}
+use Rattle.pattern.specs.Distance.{Sample, reading_of, place_worth}
 use Rattle.pattern.proofs.SoundLaws.{both}
 use Rattle.pattern.proofs.ListLaws.{take_more}
-use Rattle.record.specs.Reading.{Sample, reading_at, values_of}
 use Rattle.record.specs.Record.{Book}
 use Rattle.record.specs.Joined.{absorb, joined, fresh_after, agree_on, agrees, observed}
-use Rattle.record.specs.Worth.{worth_in, stay_worth}
+use Rattle.record.specs.Worth.{stay_worth}
 use Rattle.record.specs.Observed.{OneTick, OneTickMore, AgreesWhereTested, TwitchAddsNothing, OnlyTestedSpeak, NoTestsAddNothing}
-use Rattle.record.proofs.JoinedLaws.{joined_fresh, reading-self, reading-true, agree-worth, agrees-alike}
+use Rattle.record.proofs.JoinedLaws.{joined_fresh, agree-worth, agrees-alike}
 use Rattle.record.proofs.PlaceLaws.{place-is-worth, testless_worth}
 
 -- ---- tick by tick
@@ -76,23 +77,23 @@ one-tick p b k t inside =
     let l = place_at p k in
     let none_before : t + 0 ≡ t = omega arith in
     let one : take 1 (drop t b) ≡ get_or b t [] ∷ [] = ticks-last b t 0 (omega arith) ∙ ap (λ (m : ℕ). get_or b m [] ∷ []) none_before in
-    rw one ((weighting_of w).unit_left (worth_in w l (get_or b t [])) (place-is-worth w l (values_of (get_or b t []))))
+    rw one ((weighting_of w).unit_left (place_worth w l (get_or b t [])) (place-is-worth w l (get_or b t [])))
 
 -- observations, with one tick more
 observed-last : (w : Weighing) (l : Place) (front : Book) (x y : Sample)
-    → combine_all (weighting_of w) (map (worth_in w l) (joined (agrees l) (front ++ x ∷ y ∷ [])))
+    → combine_all (weighting_of w) (map (place_worth w l) (joined (agrees l) (front ++ x ∷ y ∷ [])))
     ≡ cond (agrees l x y)
-    (combine_all (weighting_of w) (map (worth_in w l) (joined (agrees l) (front ++ x ∷ []))))
-    ((weighting_of w).combine (combine_all (weighting_of w) (map (worth_in w l) (joined (agrees l) (front ++ x ∷ [])))) (worth_in w l y))
+    (combine_all (weighting_of w) (map (place_worth w l) (joined (agrees l) (front ++ x ∷ []))))
+    ((weighting_of w).combine (combine_all (weighting_of w) (map (place_worth w l) (joined (agrees l) (front ++ x ∷ [])))) (place_worth w l y))
 observed-last w l front x y = rw (joined-last (agrees l) front x y) (by (agrees l x y) (joined (agrees l) (front ++ x ∷ [])))
   where
     by : (t : Bool) (seen : List Sample)
-        → combine_all (weighting_of w) (map (worth_in w l) (cond t seen (seen ++ y ∷ [])))
-        ≡ cond t (combine_all (weighting_of w) (map (worth_in w l) seen)) ((weighting_of w).combine (combine_all (weighting_of w) (map (worth_in w l) seen)) (worth_in w l y))
+        → combine_all (weighting_of w) (map (place_worth w l) (cond t seen (seen ++ y ∷ [])))
+        ≡ cond t (combine_all (weighting_of w) (map (place_worth w l) seen)) ((weighting_of w).combine (combine_all (weighting_of w) (map (place_worth w l) seen)) (place_worth w l y))
     by true seen = refl
     by false seen =
-        ap (combine_all (weighting_of w)) (map-append (worth_in w l) seen (y ∷ []))
-        ∙ combine_from_snoc (weighting_of w) (weighting_of w).unit (map (worth_in w l) seen) (worth_in w l y)
+        ap (combine_all (weighting_of w)) (map-append (place_worth w l) seen (y ∷ []))
+        ∙ combine_from_snoc (weighting_of w) (weighting_of w).unit (map (place_worth w l) seen) (place_worth w l y)
 
 pub one-tick-more : OneTickMore
 unfolding stay_worth observed
@@ -110,23 +111,23 @@ one-tick-more p b k t n some-ticks inside =
 
 -- ---- agreement, channel by channel
 
-agree-all : (x y : Sample) (ts : List Test) → ((c : ℕ) → all (λ t. not (eqb t.channel c)) ts ≡ false → reading_at x c ≡ reading_at y c) → all (agree_on x y) ts ≡ true
+agree-all : (x y : Sample) (ts : List Test) → ((c : ℕ) → all (λ t. not (eqb t.channel c)) ts ≡ false → reading_of x c ≡ reading_of y c) → all (agree_on x y) ts ≡ true
 agree-all x y [] h = refl
 agree-all x y (t ∷ ts) h =
-    let here : reading_at x t.channel ≡ reading_at y t.channel = h t.channel (rw (eq-eqb t.channel t.channel refl)) in
-    rw (here, reading-self (reading_at y t.channel))
+    let here : reading_of x t.channel ≡ reading_of y t.channel = h t.channel (rw (eq-eqb t.channel t.channel refl)) in
+    rw (here, eq_self (reading_of y t.channel))
     (agree-all x y ts (λ c e. h c (ap (λ (r : Bool). not (eqb t.channel c) && r) e ∙ and-false (not (eqb t.channel c)))))
 
-all-agree : (x y : Sample) (ts : List Test) → all (agree_on x y) ts ≡ true → (c : ℕ) → all (λ t. not (eqb t.channel c)) ts ≡ false → reading_at x c ≡ reading_at y c
+all-agree : (x y : Sample) (ts : List Test) → all (agree_on x y) ts ≡ true → (c : ℕ) → all (λ t. not (eqb t.channel c)) ts ≡ false → reading_of x c ≡ reading_of y c
 all-agree x y [] e c h = absurd (true≢false h)
 all-agree x y (t ∷ ts) e c h =
     let k = both (agree_on x y t) (all (agree_on x y) ts) e in
-    by (eqb t.channel c) refl (reading-true (reading_at x t.channel) (reading_at y t.channel) k.0) (λ g. all-agree x y ts k.1 c g) h
+    by (eqb t.channel c) refl (eq-true (reading_of x t.channel) (reading_of y t.channel) k.0) (λ g. all-agree x y ts k.1 c g) h
   where
-    by : (s : Bool) → eqb t.channel c ≡ s → reading_at x t.channel ≡ reading_at y t.channel
-        → (all (λ t. not (eqb t.channel c)) ts ≡ false → reading_at x c ≡ reading_at y c)
-        → not s && all (λ t. not (eqb t.channel c)) ts ≡ false → reading_at x c ≡ reading_at y c
-    by true is here ih g = subst (λ (n : ℕ). reading_at x n ≡ reading_at y n) (eqb-true t.channel c is) here
+    by : (s : Bool) → eqb t.channel c ≡ s → reading_of x t.channel ≡ reading_of y t.channel
+        → (all (λ t. not (eqb t.channel c)) ts ≡ false → reading_of x c ≡ reading_of y c)
+        → not s && all (λ t. not (eqb t.channel c)) ts ≡ false → reading_of x c ≡ reading_of y c
+    by true is here ih g = subst (λ (n : ℕ). reading_of x n ≡ reading_of y n) (eqb-true t.channel c is) here
     by false is here ih g = ih g
 
 pub agrees_where_tested : AgreesWhereTested
@@ -154,7 +155,7 @@ tick-by-tick l (x ∷ b) (y ∷ c) e h = rw (h 0 (omega arith), tick-by-tick l b
 
 module _ (w : Weighing) (l : Place) where
   fresh_worth : (a : ℤ) (x x' : Sample) (b c : Book) → agrees l x x' ≡ true → agree_throughout l b c ≡ true
-      → combine_from (weighting_of w) a (map (worth_in w l) (fresh_after (agrees l) x b)) ≡ combine_from (weighting_of w) a (map (worth_in w l) (fresh_after (agrees l) x' c))
+      → combine_from (weighting_of w) a (map (place_worth w l) (fresh_after (agrees l) x b)) ≡ combine_from (weighting_of w) a (map (place_worth w l) (fresh_after (agrees l) x' c))
   unfolding fresh_after agree_throughout combine_from
   fresh_worth a x x' [] [] e h = refl
   fresh_worth a x x' [] (y ∷ c) e h = absurd (false≢true h)
@@ -164,15 +165,15 @@ module _ (w : Weighing) (l : Place) where
       rw (agrees-alike l x x' y y' e k.0) (by (agrees l x' y') (λ z. fresh_worth z y y' b c k.0 k.1) (agree-worth w l y y' k.0))
     where
       by : (t : Bool)
-          → ((z : ℤ) → combine_from (weighting_of w) z (map (worth_in w l) (fresh_after (agrees l) y b)) ≡ combine_from (weighting_of w) z (map (worth_in w l) (fresh_after (agrees l) y' c)))
-          → worth_in w l y ≡ worth_in w l y'
-          → combine_from (weighting_of w) a (map (worth_in w l) (cond t (fresh_after (agrees l) y b) (y ∷ fresh_after (agrees l) y b)))
-          ≡ combine_from (weighting_of w) a (map (worth_in w l) (cond t (fresh_after (agrees l) y' c) (y' ∷ fresh_after (agrees l) y' c)))
+          → ((z : ℤ) → combine_from (weighting_of w) z (map (place_worth w l) (fresh_after (agrees l) y b)) ≡ combine_from (weighting_of w) z (map (place_worth w l) (fresh_after (agrees l) y' c)))
+          → place_worth w l y ≡ place_worth w l y'
+          → combine_from (weighting_of w) a (map (place_worth w l) (cond t (fresh_after (agrees l) y b) (y ∷ fresh_after (agrees l) y b)))
+          ≡ combine_from (weighting_of w) a (map (place_worth w l) (cond t (fresh_after (agrees l) y' c) (y' ∷ fresh_after (agrees l) y' c)))
       by true ih v = ih a
-      by false ih v = rw v (ih ((weighting_of w).combine a (worth_in w l y')))
+      by false ih v = rw v (ih ((weighting_of w).combine a (place_worth w l y')))
 
   joined-worth : (b c : Book) → agree_throughout l b c ≡ true
-      → combine_all (weighting_of w) (map (worth_in w l) (joined (agrees l) b)) ≡ combine_all (weighting_of w) (map (worth_in w l) (joined (agrees l) c))
+      → combine_all (weighting_of w) (map (place_worth w l) (joined (agrees l) b)) ≡ combine_all (weighting_of w) (map (place_worth w l) (joined (agrees l) c))
   unfolding agree_throughout combine_from
   joined-worth [] [] h = refl
   joined-worth [] (y ∷ c) h = absurd (false≢true h)
@@ -180,7 +181,7 @@ module _ (w : Weighing) (l : Place) where
   joined-worth (x ∷ b) (y ∷ c) h =
       let k = both (agrees l x y) (agree_throughout l b c) h in
       rw (joined_fresh (agrees l) x b, joined_fresh (agrees l) y c, agree-worth w l x y k.0)
-      (fresh_worth ((weighting_of w).combine (weighting_of w).unit (worth_in w l y)) x y b c k.0 k.1)
+      (fresh_worth ((weighting_of w).combine (weighting_of w).unit (place_worth w l y)) x y b c k.0 k.1)
 
 -- a tick of a stay
 tick-at : (b : Book) (t n i : ℕ) → i < n → get_or (take n (drop t b)) i [] ≡ get_or b (t + i) []
@@ -201,10 +202,10 @@ only_tested_speak p b c k t n inside inside' h =
 -- ---- places without tests
 
 -- however many observations are worth nothing
-pub units : (w : Weighing) (l : Place) → tests_of l ≡ [] → (xs : List Sample) → combine_all (weighting_of w) (map (worth_in w l) xs) ≡ (weighting_of w).unit
+pub units : (w : Weighing) (l : Place) → tests_of l ≡ [] → (xs : List Sample) → combine_all (weighting_of w) (map (place_worth w l) xs) ≡ (weighting_of w).unit
 unfolding combine_from
 units w l none [] = refl
-units w l none (x ∷ xs) = rw (testless_worth w l none (values_of x), (weighting_of w).unit_right (weighting_of w).unit (weighting_of w).unit_worth) (units w l none xs)
+units w l none (x ∷ xs) = rw (testless_worth w l none x, (weighting_of w).unit_right (weighting_of w).unit (weighting_of w).unit_worth) (units w l none xs)
 
 pub no_tests-add-nothing : NoTestsAddNothing
 unfolding stay_worth

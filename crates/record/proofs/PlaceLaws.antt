@@ -1,4 +1,4 @@
--- A place's worth of values: always a worth; in a sound pattern, of values in range, at most 8,000,000 in size, and in
+-- A place's worth of a sample: always a worth; in a sound pattern, of values in range, at most 8,000,000 in size, and in
 -- margin at most 2,000,001; the unit where the place has no tests, as all places past the last.
 use Prim.Native.Nat.{ℕ, zero, suc, ◌+◌, ◌-◌, ◌≤◌, ◌<◌}
 use native.Mathlib.Nat.{mul-le-mul_right}
@@ -27,7 +27,7 @@ use Rattle.pattern.specs.declared.Pattern.{Pattern}
 use Rattle.pattern.specs.Slots.{all, slots}
 use Rattle.pattern.specs.Sound.{no_place, is_plain, test_in_range, test_unused, test_sound, place_unused, place_sound, sound_of}
 use Rattle.pattern.specs.InUse.{tests_of, place_at}
-use Rattle.pattern.specs.Distance.{Values, value_at, distance_in, distances_of, place_worth}
+use Rattle.pattern.specs.Distance.{Sample, reading_of, distance_in, distances_of, place_worth}
 use Rattle.pattern.proofs.Claims.{distances_in-range}
 use Rattle.pattern.proofs.SoundLaws.{both, slotted, parts, test_parts}
 use Rattle.record.specs.Record.{value_in_range}
@@ -45,21 +45,21 @@ unfolding combine_from
 stays-worth-all w a [] h = h
 stays-worth-all w a (x ∷ l) h = stays-worth-all w ((weighting_of w).combine a x) l (stays-worth w a x h)
 
-pub place-is-worth : (w : Weighing) (l : Place) (x : Values) → T ((weighting_of w).worth (place_worth w l x))
+pub place-is-worth : (w : Weighing) (l : Place) (x : Sample) → T ((weighting_of w).worth (place_worth w l x))
 unfolding place_worth
 place-is-worth w l x = stays-worth-all w (weighting_of w).unit (distances_of l x) (weighting_of w).unit_worth
 
 -- ---- sizes
 
-reading-size : (x : Values) (k : ℕ) → all value_in_range x ≡ true → nat_abs (value_at x k) ≤ 1000000
+reading-size : (x : Sample) (k : ℕ) → all value_in_range x ≡ true → nat_abs (reading_of x k) ≤ 1000000
 reading-size [] k e = omega arith
 reading-size (v ∷ x) zero e = leb-true (nat_abs v) 1000000 (both (value_in_range v) (all value_in_range x) e).0
 reading-size (v ∷ x) (suc k) e = reading-size x k (both (value_in_range v) (all value_in_range x) e).1
 
-pub distance_size : (x : Values) (t : Test) → all value_in_range x ≡ true → test_in_range t ≡ true → nat_abs (distance_in x t) ≤ 2000000
-distance_size x t e h = distances_in-range t (value_at x t.channel) h (reading-size x t.channel e)
+pub distance_size : (x : Sample) (t : Test) → all value_in_range x ≡ true → test_in_range t ≡ true → nat_abs (distance_in x t) ≤ 2000000
+distance_size x t e h = distances_in-range t (reading_of x t.channel) h (reading-size x t.channel e)
 
-distances_size : (channels : ℕ) (x : Values) (ts : List Test) → all value_in_range x ≡ true → all (test_sound channels) ts ≡ true
+distances_size : (channels : ℕ) (x : Sample) (ts : List Test) → all value_in_range x ≡ true → all (test_sound channels) ts ≡ true
     → Within 2000000 (map (distance_in x) ts)
 distances_size n x [] e h a m = absurd (Memᴰ.not-nil m)
 distances_size n x (t ∷ ts) e h a m =
@@ -69,7 +69,7 @@ distances_size n x (t ∷ ts) e h a m =
     (λ q. distances_size n x ts e k.1 a q)
     (Memᴰ.cases_cons m)
 
-module _ (channels : ℕ) (l : Place) (x : Values) (h : place_sound channels l ≡ true) (e : all value_in_range x ≡ true) where
+module _ (channels : ℕ) (l : Place) (x : Sample) (h : place_sound channels l ≡ true) (e : all value_in_range x ≡ true) where
   within : Within 2000000 (distances_of l x)
   unfolding place_sound distances_of
   within = distances_size channels x (tests_of l) e (slotted h).front
@@ -102,7 +102,7 @@ place-at-sound p k h less =
 
 -- ---- places without tests
 
-pub testless_worth : (w : Weighing) (l : Place) → tests_of l ≡ [] → (x : Values) → place_worth w l x ≡ (weighting_of w).unit
+pub testless_worth : (w : Weighing) (l : Place) → tests_of l ≡ [] → (x : Sample) → place_worth w l x ≡ (weighting_of w).unit
 unfolding place_worth distances_of combine_from
 testless_worth w l none x = rw none
 

@@ -11,10 +11,10 @@ use lib.ListN.{length, take, drop, get_or, replicate, length-append, length-repl
 use lib.Seq.{drop-drop, drop-append-add, take_all}
 use lib.IntN.{ℤ}
 use Rattle.pattern.specs.Slots.{all}
+use Rattle.pattern.specs.Distance.{Sample}
 use Rattle.pattern.proofs.ListLaws.{take_more}
 use Rattle.pattern.proofs.SoundLaws.{both}
-use Rattle.record.specs.Reading.{Reading, Sample, read_sound}
-use Rattle.record.specs.Record.{ticks_of, pieces_of, sample_at, total, value_in_range, record_sound, lent_sound}
+use Rattle.record.specs.Record.{ticks_of, pieces_of, sample_at, total, value_in_range, record_sound}
 use Rattle.record.proofs.ListLaws.{all_drop}
 
 -- ---- totals
@@ -48,7 +48,7 @@ pub sample-within : (i m n : ℕ) → i < m → i * n + n ≤ m * n
 sample-within i m n h = rw (← suc-mul i n) (mul-le-mul_right n h)
 
 -- the part of the values that is a piece's sample
-pub part-sample : (n i : ℕ) (vs : List Reading) → take (i * n + n - i * n) (drop (i * n) vs) ≡ sample_at n vs i
+pub part-sample : (n i : ℕ) (vs : List ℤ) → take (i * n + n - i * n) (drop (i * n) vs) ≡ sample_at n vs i
 unfolding sample_at
 part-sample n i vs = let e : i * n + n - i * n ≡ n = omega arith in rw e
 
@@ -76,10 +76,6 @@ parts n ds vs e =
       agree = eqb-true _ _ a.1;
     }
 
-pub lent-parts : (n : ℕ) (ds : List ℕ) (vs : List ℤ) (fs : List ℕ) → lent_sound n ds vs fs ≡ true → (record_sound n ds vs ≡ true) × (read_sound vs fs ≡ true)
-unfolding lent_sound
-lent-parts n ds vs fs e = both (record_sound n ds vs) (read_sound vs fs) e
-
 -- a piece has a tick, and so has what is read past the last
 pub lasts-at : (ds : List ℕ) (i : ℕ) → all (leb 1) ds ≡ true → 0 < get_or ds i 1
 lasts-at [] i e = omega arith
@@ -89,7 +85,7 @@ lasts-at (d ∷ ds) (suc i) e = lasts-at ds i (both (leb 1 d) (all (leb 1) ds) e
 -- ---- pieces
 
 module _ (n : ℕ) where
-  pub length-ticks : (ds : List ℕ) (vs : List Reading) → length (ticks_of (pieces_of n ds vs)) ≡ total ds
+  pub length-ticks : (ds : List ℕ) (vs : List ℤ) → length (ticks_of (pieces_of n ds vs)) ≡ total ds
   unfolding ticks_of pieces_of total
   length-ticks [] vs = refl
   length-ticks (d ∷ ds) vs =
@@ -97,7 +93,7 @@ module _ (n : ℕ) where
       ∙ rw (length-replicate d (take n vs), length-ticks ds (drop n vs))
 
   -- the pieces from a piece on
-  pub drop_pieces : (i : ℕ) (ds : List ℕ) (vs : List Reading) → drop i (pieces_of n ds vs) ≡ pieces_of n (drop i ds) (drop (i * n) vs)
+  pub drop_pieces : (i : ℕ) (ds : List ℕ) (vs : List ℤ) → drop i (pieces_of n ds vs) ≡ pieces_of n (drop i ds) (drop (i * n) vs)
   unfolding pieces_of
   drop_pieces zero ds vs = rw (zero-mul n)
   drop_pieces (suc i) [] vs = refl
@@ -107,7 +103,7 @@ module _ (n : ℕ) where
       shift : n + i * n ≡ suc i * n
       shift = omega (arith, suc-mul i n)
 
-  pub piece-at : (i : ℕ) (ds : List ℕ) (vs : List Reading) → i < length ds
+  pub piece-at : (i : ℕ) (ds : List ℕ) (vs : List ℤ) → i < length ds
       → drop i (pieces_of n ds vs) ≡ record { duration = get_or ds i 0; sample = sample_at n vs i } ∷ drop (suc i) (pieces_of n ds vs)
   unfolding pieces_of sample_at
   piece-at i [] vs h = absurd (omega arith)
@@ -142,7 +138,7 @@ part_sound n i ds vs e h =
     let agree : eqb (length (drop (i * n) vs)) (length (drop i ds) * n) ≡ true = eq-eqb (length (drop (i * n) vs)) (length (drop i ds) * n) rest in
     rw (few, all_drop (leb 1) i ds k.lasting, short, all_drop value_in_range (i * n) vs k.values, agree)
 
-pub ticks-from : (n i : ℕ) (ds : List ℕ) (vs : List Reading) → i ≤ length ds → drop (total (take i ds)) (ticks_of (pieces_of n ds vs)) ≡ ticks_of (drop i (pieces_of n ds vs))
+pub ticks-from : (n i : ℕ) (ds : List ℕ) (vs : List ℤ) → i ≤ length ds → drop (total (take i ds)) (ticks_of (pieces_of n ds vs)) ≡ ticks_of (drop i (pieces_of n ds vs))
 unfolding total ticks_of pieces_of
 ticks-from n zero ds vs h = refl
 ticks-from n (suc i) [] vs h = absurd (omega arith)

@@ -2,6 +2,7 @@
 -- of the meaning. Proved in proofs/AsBefore.
 use Rattle.std.specs.Prelude.{ℕ, ◌+◌, ◌≡◌, List, [], ◌∷◌, map, Bool, true, false, cond, ◌&&◌, eqb, leb, length, take, drop, ℤ}
 use Rattle.std.proofs.Math.Option.{Option, none, some}
+use Rattle.integers.specs.Equal.{eq_z}
 use Rattle.weighting.specs.declared.Weighing.TheVariants.{Margin}
 use Rattle.weighting.specs.Weighting.{combine_all}
 use Rattle.weighting.specs.Weightings.{weighting_of}
@@ -9,12 +10,11 @@ use Rattle.pattern.specs.declared.Pattern.{Pattern}
 use Rattle.pattern.specs.Slots.{all}
 use Rattle.pattern.specs.Sound.{sound_of}
 use Rattle.pattern.specs.InUse.{place_at, edge_at}
-use Rattle.record.specs.Reading.{Sample}
+use Rattle.pattern.specs.Distance.{Sample, place_worth}
 use Rattle.record.specs.Record.{Book}
-use Rattle.record.specs.Joined.{joined, same_reading}
+use Rattle.record.specs.Joined.{joined}
 use Rattle.record.specs.Run.{Step, is_run, length_of}
-use Rattle.record.specs.Stay.{stays_open}
-use Rattle.record.specs.Worth.{worth_in, stay_worth, price_of}
+use Rattle.record.specs.Worth.{stay_worth, price_of}
 
 -- ---- on whole samples
 
@@ -23,12 +23,12 @@ unfoldable pub same_sample : Sample → Sample → Bool
 same_sample [] [] = true
 same_sample [] (y ∷ ys) = false
 same_sample (x ∷ xs) [] = false
-same_sample (x ∷ xs) (y ∷ ys) = same_reading x y && same_sample xs ys
+same_sample (x ∷ xs) (y ∷ ys) = eq_z x y && same_sample xs ys
 
 -- A stay, the stays of a run and its price, as Worth has them, but for the test of neighbours.
 abbrev pub whole_stay : Pattern → Book → (place t n : ℕ) → ℤ
 whole_stay p b k t n =
-    combine_all (weighting_of p.weighing) (map (worth_in p.weighing (place_at p k)) (joined same_sample (take n (drop t b))))
+    combine_all (weighting_of p.weighing) (map (place_worth p.weighing (place_at p k)) (joined same_sample (take n (drop t b))))
 
 unfoldable pub whole_stays : Pattern → Book → (t : ℕ) → List Step → List ℤ
 whole_stays p b t [] = []
@@ -36,9 +36,7 @@ whole_stays p b t (x ∷ xs) = whole_stay p b (edge_at p x.edge).from t x.stay �
 
 abbrev pub whole_price : Pattern → Book → (begin : ℕ) → List Step → Option ℤ
 whole_price p b begin xs =
-    cond (is_run p xs && leb (begin + length_of xs) (length b) && stays_open p b begin xs)
-    (some (combine_all (weighting_of p.weighing) (whole_stays p b begin xs)))
-    none
+    cond (is_run p xs && leb (begin + length_of xs) (length b)) (some (combine_all (weighting_of p.weighing) (whole_stays p b begin xs))) none
 
 -- ---- what comes out as before
 

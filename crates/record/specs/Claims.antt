@@ -13,15 +13,13 @@ use Rattle.pattern.specs.declared.Pattern.{Pattern}
 use Rattle.pattern.specs.Kinds.{is_start, is_end}
 use Rattle.pattern.specs.InUse.{guards_of, place_at, edge_at}
 use Rattle.pattern.specs.Clocks.{Clocks}
-use Rattle.pattern.specs.Distance.{distances_of}
-use Rattle.record.specs.Reading.{Sample, values_of}
+use Rattle.pattern.specs.Distance.{Sample, distances_of, place_worth}
 use Rattle.record.specs.Record.{Piece, Book, ticks_of}
 use Rattle.record.specs.Joined.{joined, fresh_after, agrees}
 use Rattle.record.specs.Run.{Step, can_step, is_run, end_of, length_of}
-use Rattle.record.specs.Stay.{stays_open}
-use Rattle.record.specs.Worth.{worth_in, stay_worth, run_worth, price_of}
+use Rattle.record.specs.Worth.{stay_worth, run_worth, price_of}
 
--- A piece cut in two, or two neighbours with equal readings made one, changes no price.
+-- A piece cut in two, or two neighbours with equal values made one, changes no price.
 abbrev pub CutsDoNotMatter : Type 0
 CutsDoNotMatter =
     (p : Pattern) (before after : List Piece) (m n : ℕ) (s : Sample) (begin : ℕ) (xs : List Step)
@@ -42,14 +40,13 @@ MarginCountsTicks =
 
 -- Samples that agree in a place are worth the same there.
 abbrev pub AgreeingWorths : Type 0
-AgreeingWorths = (w : Weighing) (l : Place) (x y : Sample) → agrees l x y ≡ true → worth_in w l x ≡ worth_in w l y
+AgreeingWorths = (w : Weighing) (l : Place) (x y : Sample) → agrees l x y ≡ true → place_worth w l x ≡ place_worth w l y
 
 -- Every distance of the steps' stays: of each test of the place that a step leaves, at each tick of its stay.
 unfoldable pub distances_in : Pattern → Book → (t : ℕ) → List Step → List ℤ
 distances_in p b t [] = []
 distances_in p b t (x ∷ xs) =
-    flat_map (λ s. distances_of (place_at p (edge_at p x.edge).from) (values_of s)) (take x.stay (drop t b))
-    ++ distances_in p b (t + x.stay) xs
+    flat_map (distances_of (place_at p (edge_at p x.edge).from)) (take x.stay (drop t b)) ++ distances_in p b (t + x.stay) xs
 
 -- In margin a run's price is the least of 2,000,001 (`margin`'s unit) and all of them. In document 01's ranges every distance
 -- is at most 2,000,000 (theorem DistancesInRange), so it is the least of them, and 2,000,001 exactly if there is none.
@@ -77,7 +74,7 @@ OnlyPlacesLeftSpeak =
 abbrev pub EndPlaceIsSilent : Type 0
 EndPlaceIsSilent =
     (p : Pattern) (b : Book) (begin : ℕ) (xs : List Step) (x : Step)
-    → is_run p (xs ++ (x ∷ [])) ≡ true → end_of begin (xs ++ (x ∷ [])) ≤ length b → stays_open p b begin (xs ++ (x ∷ [])) ≡ true
+    → is_run p (xs ++ (x ∷ [])) ≡ true → end_of begin (xs ++ (x ∷ [])) ≤ length b
     → price_of p b begin (xs ++ (x ∷ []))
     ≡ some
     ((weighting_of p.weighing).combine

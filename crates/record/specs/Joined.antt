@@ -1,14 +1,13 @@
 -- What a stay observes: neighbouring ticks that are one are one observation, and what makes two ticks one is the place's matter
--- (document 02, R-3 and R-7). Source 000, definition 2, joins ticks that are equal in every channel; specs/AsBefore says what that
+-- (document 02, R-3). Source 000, definition 2, joins ticks that are equal in every channel; specs/AsBefore says what that
 -- reading has in common with this one.
-use Rattle.std.specs.Prelude.{ℕ, List, [], ◌∷◌, Bool, true, false, cond, take, drop}
-use Rattle.std.proofs.Math.Option.{none, some}
+use Rattle.std.specs.Prelude.{ℕ, List, [], ◌∷◌, Bool, cond, take, drop}
 use Rattle.integers.specs.Equal.{eq_z}
 use Rattle.pattern.specs.declared.Test.{Test}
 use Rattle.pattern.specs.declared.Place.{Place}
 use Rattle.pattern.specs.Slots.{all}
 use Rattle.pattern.specs.InUse.{tests_of}
-use Rattle.record.specs.Reading.{Reading, Sample, reading_at}
+use Rattle.pattern.specs.Distance.{Sample, reading_of}
 use Rattle.record.specs.Record.{Book}
 
 -- ---- joining, by any test of neighbours
@@ -30,16 +29,9 @@ fresh_after same last (x ∷ b) = cond (same last x) (fresh_after same x b) (x �
 
 -- ---- the test that stays use
 
--- Readings are the same if both have that value or both were lost. A lost one is like no value (document 02, R-7).
-abbrev pub same_reading : Reading → Reading → Bool
-same_reading none none = true
-same_reading none (some b) = false
-same_reading (some a) none = false
-same_reading (some a) (some b) = eq_z a b
-
--- Two samples read the same in the channel of a test.
+-- Two samples have the same value in the channel of a test.
 abbrev pub agree_on : Sample → Sample → Test → Bool
-agree_on x y t = same_reading (reading_at x t.channel) (reading_at y t.channel)
+agree_on x y t = eq_z (reading_of x t.channel) (reading_of y t.channel)
 
 -- They agree in a place if they do so in the channel of each of its tests. In a place without tests any two agree.
 unfoldable pub agrees : Place → Sample → Sample → Bool

@@ -6,17 +6,17 @@ use Rattle.pattern.specs.declared.Place.{Place}
 use Rattle.pattern.specs.declared.Pattern.{Pattern}
 use Rattle.pattern.specs.Slots.{all}
 use Rattle.pattern.specs.InUse.{tests_of, place_at}
-use Rattle.record.specs.Reading.{Sample, reading_at}
+use Rattle.pattern.specs.Distance.{Sample, reading_of, place_worth}
 use Rattle.record.specs.Record.{Book}
 use Rattle.record.specs.Joined.{agrees}
-use Rattle.record.specs.Worth.{worth_in, stay_worth}
+use Rattle.record.specs.Worth.{stay_worth}
 
 -- ---- tick by tick
 
 -- Theorem: a stay of one tick is worth what its place is then.
 abbrev pub OneTick : Type 0
 OneTick =
-    (p : Pattern) (b : Book) (k t : ℕ) → t < length b → stay_worth p b k t 1 ≡ worth_in p.weighing (place_at p k) (get_or b t [])
+    (p : Pattern) (b : Book) (k t : ℕ) → t < length b → stay_worth p b k t 1 ≡ place_worth p.weighing (place_at p k) (get_or b t [])
 
 -- Theorem: one tick more adds nothing to a stay if it agrees in the place with the tick before, and else what the place is worth
 -- then.
@@ -26,7 +26,7 @@ OneTickMore =
     → stay_worth p b k t (n + 1)
     ≡ cond (agrees (place_at p k) (get_or b (t + n - 1) []) (get_or b (t + n) []))
     (stay_worth p b k t n)
-    ((weighting_of p.weighing).combine (stay_worth p b k t n) (worth_in p.weighing (place_at p k) (get_or b (t + n) [])))
+    ((weighting_of p.weighing).combine (stay_worth p b k t n) (place_worth p.weighing (place_at p k) (get_or b (t + n) [])))
 
 -- ---- what a place does not test
 
@@ -36,7 +36,7 @@ untested l c = all (λ t. not (eqb t.channel c)) (tests_of l)
 
 -- Two samples differ at most in such channels.
 abbrev pub SameWhereTested : Place → Sample → Sample → Type 0
-SameWhereTested l x y = (c : ℕ) → untested l c ≡ false → reading_at x c ≡ reading_at y c
+SameWhereTested l x y = (c : ℕ) → untested l c ≡ false → reading_of x c ≡ reading_of y c
 
 -- Theorem: then they agree in the place, and only then.
 pub record AgreementMeans (l : Place) (x y : Sample) : Type 0 where

@@ -2,10 +2,9 @@
 -- a signal is a sequence of values, each with its duration; here every duration is a whole number of ticks).
 use Rattle.std.specs.Prelude.{ℕ, ◌+◌, ◌*◌, List, [], ◌∷◌, ◌++◌, Bool, ◌&&◌, eqb, leb, length, take, drop, replicate, ℤ, nat_abs}
 use Rattle.pattern.specs.Slots.{all}
-use Rattle.pattern.specs.Distance.{Values}
-use Rattle.record.specs.Reading.{Reading, Sample, read_sound}
+use Rattle.pattern.specs.Distance.{Sample}
 
--- "a duration of at least 1 tick and one value per channel", which may be lost (document 02, R-7)
+-- "a duration of at least 1 tick and one value per channel"
 pub record Piece : Type 0 where
   pub duration : ℕ
   pub sample : Sample
@@ -19,18 +18,18 @@ unfoldable pub ticks_of : List Piece → Book
 ticks_of [] = []
 ticks_of (x ∷ xs) = replicate x.duration x.sample ++ ticks_of xs
 
--- A record is lent as durations, values and flags, piece by piece, channel by channel. The last two make its readings.
-unfoldable pub pieces_of : (channels : ℕ) → (durations : List ℕ) → List Reading → List Piece
-pieces_of n [] rs = []
-pieces_of n (d ∷ ds) rs = record { duration = d; sample = take n rs } ∷ pieces_of n ds (drop n rs)
+-- A record is lent as two slices: the durations, and the values piece by piece, channel by channel.
+unfoldable pub pieces_of : (channels : ℕ) → (durations : List ℕ) → (values : List ℤ) → List Piece
+pieces_of n [] vs = []
+pieces_of n (d ∷ ds) vs = record { duration = d; sample = take n vs } ∷ pieces_of n ds (drop n vs)
 
--- The sample of a piece, by its number (for the code; the book takes the readings piece by piece).
-unfoldable pub sample_at : (channels : ℕ) → List Reading → (piece : ℕ) → Sample
-sample_at n rs i = take n (drop (i * n) rs)
+-- The sample of a piece, by its number: its "one value per channel" (for the code; the book takes the values piece by piece).
+unfoldable pub sample_at : (channels : ℕ) → (values : List ℤ) → (piece : ℕ) → Sample
+sample_at n vs i = take n (drop (i * n) vs)
 
 -- The book of a lent record: "Tick t runs from time t to t + 1", from the first piece's first tick on.
-unfoldable pub book_of : (channels : ℕ) → (durations : List ℕ) → List Reading → Book
-book_of n ds rs = ticks_of (pieces_of n ds rs)
+unfoldable pub book_of : (channels : ℕ) → (durations : List ℕ) → (values : List ℤ) → Book
+book_of n ds vs = ticks_of (pieces_of n ds vs)
 
 -- "The durations total": the record's ticks.
 unfoldable pub total : List ℕ → ℕ
@@ -43,11 +42,7 @@ value_in_range v = leb (nat_abs v) 1_000_000
 
 -- "A record is up to 4,096 pieces: a duration of at least 1 tick and one value per channel .. The durations total at most
 -- 2,147,483,647." The slices agree if there are pieces × channels values.
-unfoldable pub record_sound : (channels : ℕ) → (durations : List ℕ) → Values → Bool
+unfoldable pub record_sound : (channels : ℕ) → (durations : List ℕ) → (values : List ℤ) → Bool
 record_sound n ds vs =
     leb (length ds) 4_096 && all (leb 1) ds && leb (total ds) 2_147_483_647 && all value_in_range vs
     && eqb (length vs) (length ds * n)
-
--- What is asked of a record as it is lent: these rules, a flag for each value, and value 0 where a channel was not read.
-unfoldable pub lent_sound : (channels : ℕ) → (durations : List ℕ) → Values → (flags : List ℕ) → Bool
-lent_sound n ds vs fs = record_sound n ds vs && read_sound vs fs

@@ -1,28 +1,20 @@
--- What a stay and a run are worth (document 01, 'Record and run'; by document 02 in sum, R-3, and where readings are lost, R-7; source 000,
+-- What a stay and a run are worth (document 01, 'Record and run'; in sum by document 02, R-3, which prevails; source 000,
 -- definition 7 and example 8, whose sum has a slip in its index and says the margin where it means the sum).
 use Rattle.std.specs.Prelude.{ℕ, ◌+◌, List, [], ◌∷◌, map, cond, ◌&&◌, leb, length, ℤ}
 use Rattle.std.proofs.Math.Option.{Option, none, some}
-use Rattle.weighting.specs.declared.Weighing.{Weighing}
 use Rattle.weighting.specs.Weighting.{combine_all}
 use Rattle.weighting.specs.Weightings.{weighting_of}
-use Rattle.pattern.specs.declared.Place.{Place}
 use Rattle.pattern.specs.declared.Pattern.{Pattern}
 use Rattle.pattern.specs.InUse.{place_at, edge_at}
 use Rattle.pattern.specs.Distance.{place_worth}
-use Rattle.record.specs.Reading.{Sample, values_of}
 use Rattle.record.specs.Record.{Book}
 use Rattle.record.specs.Joined.{observed}
 use Rattle.record.specs.Run.{Step, is_run, length_of}
-use Rattle.record.specs.Stay.{stays_open}
-
--- What one observation of a sample is worth in a place: by the values that it holds.
-abbrev pub worth_in : Weighing → Place → Sample → ℤ
-worth_in w l x = place_worth w l (values_of x)
 
 -- A stay of n ticks in a place from time t: in margin the least distance over its tests and what it observes; in sum the
 -- distances of all its tests added up, once for each observation. Without tests that is the unit: 2,000,001 or 0.
 unfoldable pub stay_worth : Pattern → Book → (place t n : ℕ) → ℤ
-stay_worth p b k t n = combine_all (weighting_of p.weighing) (map (worth_in p.weighing (place_at p k)) (observed (place_at p k) b t n))
+stay_worth p b k t n = combine_all (weighting_of p.weighing) (map (place_worth p.weighing (place_at p k)) (observed (place_at p k) b t n))
 
 -- The stays of a run that begins its first at time t. A stay is in the place that its edge leaves, so the place that the
 -- last edge enters has no say.
@@ -35,7 +27,7 @@ unfoldable pub run_worth : Pattern → Book → (begin : ℕ) → List Step → 
 run_worth p b begin xs = combine_all (weighting_of p.weighing) (stay_worths p b begin xs)
 
 -- "A run is priced from any begin inside the record. The window does not count in pricing." None if the steps "are not a
--- run, or pass the record's end", or if a stay goes on where its place cannot be stayed in: that is no run (document 02, R-7).
+-- run, or pass the record's end".
 unfoldable pub price_of : Pattern → Book → (begin : ℕ) → List Step → Option ℤ
 price_of p b begin xs =
-    cond (is_run p xs && leb (begin + length_of xs) (length b) && stays_open p b begin xs) (some (run_worth p b begin xs)) none
+    cond (is_run p xs && leb (begin + length_of xs) (length b)) (some (run_worth p b begin xs)) none

@@ -1,9 +1,7 @@
 // A record's rules.
-ghost use Rattle.std.specs.Prelude.{◌≡◌, ◌||◌, ◌≤◌, min, leb, length};
+ghost use Rattle.std.specs.Prelude.{◌≡◌, ◌≤◌, min, leb, length};
 ghost use Rattle.pattern.specs.Slots.{all};
-ghost use Rattle.pattern.specs.Sound.{is_null};
-ghost use Rattle.record.specs.Reading.{is_set, read_sound};
-ghost use Rattle.record.specs.Record.{total, value_in_range, lent_sound};
+ghost use Rattle.record.specs.Record.{total, value_in_range, record_sound};
 
 // Whether each piece has at least 1 tick.
 pub fn all_last(durations: &[u32]) -> bool
@@ -57,38 +55,14 @@ pub fn all_in_range(values: &[i32]) -> bool
     ok
 }
 
-// A channel that was not read holds value 0.
-fn reading_fine(flag: u8, value: i32) -> bool
-    ensures { result ≡ is_set flag || is_null value }
-{
-    (flag != 0) | (value == 0)
-}
-
-// A flag for each value, and value 0 where it is not set.
-pub fn read_sound(values: &[i32], read: &[u8]) -> bool
-    ensures { result ≡ read_sound values.now read.now }
-{
-    if values.len() != read.len() {
-        return false;
-    }
-    let mut ok = true;
-    let mut i: usize = 0;
-    while i < values.len() {
-        ok = ok & reading_fine(read[i], values[i]);
-        i += 1;
-    }
-    ok
-}
-
-pub fn record_sound(channels: u8, durations: &[u32], values: &[i32], read: &[u8]) -> bool
-    ensures { result ≡ lent_sound channels durations.now values.now read.now }
+pub fn record_sound(channels: u8, durations: &[u32], values: &[i32]) -> bool
+    ensures { result ≡ record_sound channels durations.now values.now }
 {
     if durations.len() <= 4096 {
         all_last(durations)
             & (ticks(durations) <= 2147483647)
             & all_in_range(values)
             & (values.len() == durations.len() * (channels as usize))
-            & read_sound(values, read)
     } else {
         false
     }

@@ -2,11 +2,11 @@
 use Prim.Native.Nat.{ℕ, ◌+◌, ◌-◌, ◌≤◌, ◌<◌, min}
 use native.Mathlib.Omega.{arith}
 use mathlib.Core.Path.{◌≡◌, refl, sym, ap, ap₂, ◌∙◌}
-use mathlib.Core.List.{List, [], ◌∷◌, ◌++◌, map, map-append}
+use mathlib.Core.List.{List, [], ◌∷◌, ◌++◌, map}
 use mathlib.Core.Option.{Option, none, some}
-use mathlib.Core.Bool.{Bool, true, ◌&&◌}
+use mathlib.Core.Bool.{Bool, true}
 use lib.Dec.{eqb}
-use lib.ListN.{length, take, drop, length-append, length-drop, length-map}
+use lib.ListN.{length, take, drop, length-append, length-drop}
 use lib.Seq.{take_all, drop-append_seam}
 use lib.IntN.{ℤ, pos}
 use borrow.Author.Tests.{eqb-true}
@@ -18,16 +18,15 @@ use Rattle.pattern_text.specs.Form.{◌◂◌, write_many, many}
 use Rattle.pattern_text.specs.Text.{pad}
 use Rattle.pattern_text.proofs.Tools.{both}
 use Rattle.text_scan.specs.Scan.{end_of, held}
-use Rattle.record.specs.Reading.{value_of, values_of, flag_of, flags_of}
 use Rattle.record.specs.Record.{total, value_in_range, record_sound}
 use Rattle.record.proofs.RecordLaws.{parts}
-use Rattle.record_text.specs.Piece.{RawPiece, readings_in, piece_line}
-use Rattle.record_text.specs.Text.{record_form, render_record, read_record, durations_of, readings_of, counts_fit, pieces_sound, record_refusal}
+use Rattle.record_text.specs.Piece.{RawPiece, values_in, piece_line}
+use Rattle.record_text.specs.Text.{record_form, render_record, read_record, durations_of, values_of, counts_fit, pieces_sound, record_refusal}
 use Rattle.record_text.specs.Claims.{Outcome, long, formless, unsound, sound}
 use Rattle.record_text.proofs.LineLaws.{ended-faithful, records, render_append, render_long}
 use Rattle.record_text.proofs.Theorems.{refusals_exact}
 use Rattle.line_lists.proofs.Held.{held-is}
-use Rattle.record_read.specs.Line.{limit, kept_values, kept_flags, piece_in, piece_at}
+use Rattle.record_read.specs.Line.{limit, kept_values, piece_in, piece_at}
 use Rattle.record_read.specs.Claims.{PiecesRead, PiecesEnd, PiecesLeft}
 use Rattle.record_read.proofs.Walking.{line_shorter}
 
@@ -69,16 +68,12 @@ held_same : (vs : List ℤ) → all value_in_range vs ≡ true → map held vs �
 held_same [] h = refl
 held_same (v ∷ vs) h = let k = both (value_in_range v) (all value_in_range vs) h in ap₂ ◌∷◌ (held-is v k.0) (held_same vs k.1)
 
--- the values of all readings, at a piece
-values-split : (r : RawPiece) (rs : List RawPiece) → all value_in_range (values_of (readings_of (r ∷ rs))) ≡ all value_in_range (values_of (readings_in r)) && all value_in_range (values_of (readings_of rs))
-unfolding readings_of
-values-split r rs = ap (all value_in_range) (map-append value_of (readings_in r) (readings_of rs)) ∙ all_append value_in_range (values_of (readings_in r)) (values_of (readings_of rs))
-
-values-inside : (before : List RawPiece) (r : RawPiece) (after : List RawPiece) → all value_in_range (values_of (readings_of (before ++ r ∷ after))) ≡ true → all value_in_range (values_of (readings_in r)) ≡ true
-values-inside [] r after h = (both (all value_in_range (values_of (readings_in r))) (all value_in_range (values_of (readings_of after))) (sym (values-split r after) ∙ h)).0
+values-inside : (before : List RawPiece) (r : RawPiece) (after : List RawPiece) → all value_in_range (values_of (before ++ r ∷ after)) ≡ true → all value_in_range (values_in r) ≡ true
+unfolding values_of
+values-inside [] r after h = (both (all value_in_range (values_in r)) (all value_in_range (values_of after)) (sym (all_append value_in_range (values_in r) (values_of after)) ∙ h)).0
 values-inside (b ∷ before) r after h =
-    let rest = before ++ r ∷ after in
-    values-inside before r after (both (all value_in_range (values_of (readings_in b))) (all value_in_range (values_of (readings_of rest))) (sym (values-split b rest) ∙ h)).1
+    let rest = values_of (before ++ r ∷ after) in
+    values-inside before r after (both (all value_in_range (values_in b)) (all value_in_range rest) (sym (all_append value_in_range (values_in b) rest) ∙ h)).1
 
 -- ---- the theorem
 
@@ -106,13 +101,11 @@ pieces_read channels t before r after few e h =
     let read : (piece_line ◂ "\n").read (drop at t) ≡ got r (render_record after) = ap (piece_line ◂ "\n").read here ∙ ended-faithful.complete r (render_record after) tt in
     let next : end_of t (render_record after) ≡ length (render_record (before ++ (r ∷ []))) =
     omega (arith, ap length text, length-append (render_record before) (line ++ render_record after), length-append line (render_record after), ap length (render_append before (r ∷ [])), length-append (render_record before) (line ++ []), length-append line []) in
-    let k = both (counts_fit channels rs) (record_sound channels (durations_of rs) (values_of (readings_of rs))) (accepted channels t rs e h) in
-    let p = parts channels (durations_of rs) (values_of (readings_of rs)) k.1 in
+    let k = both (counts_fit channels rs) (record_sound channels (durations_of rs) (values_of rs)) (accepted channels t rs e h) in
+    let p = parts channels (durations_of rs) (values_of rs) k.1 in
     let short : total (durations_of rs) ≤ 2_147_483_647 = p.short in
     let duration : min limit r.duration ≡ r.duration = omega (arith, duration-small before r after) in
-    let x = readings_in r in
-    let count : length x ≡ channels = eqb-true (length x) channels (all_member (λ r. eqb (length (readings_in r)) channels) before r after k.0) in
-    let values : kept_values x ≡ pad 8 (pos 0) (values_of x) =
-    ap (λ vs. pad 8 (pos 0) (take 8 vs)) (held_same (values_of x) (values-inside before r after p.values)) ∙ ap (pad 8 (pos 0)) (take_all 8 (values_of x) (omega (arith, length-map x value_of))) in
-    let flags : kept_flags x ≡ pad 8 1 (flags_of x) = ap (pad 8 1) (take_all 8 (flags_of x) (omega (arith, length-map x flag_of))) in
-    rw read (λ i. record { duration = duration i; values = values i; next = next i; read = flags i })
+    let count : length (values_in r) ≡ channels = eqb-true (length (values_in r)) channels (all_member (λ r. eqb (length (values_in r)) channels) before r after k.0) in
+    let values : kept_values (values_in r) ≡ pad 8 (pos 0) (values_in r) =
+    ap (λ vs. pad 8 (pos 0) (take 8 vs)) (held_same (values_in r) (values-inside before r after p.values)) ∙ ap (pad 8 (pos 0)) (take_all 8 (values_in r) (omega arith)) in
+    rw read (λ i. record { duration = duration i; values = values i; next = next i })

@@ -20,11 +20,10 @@ use Rattle.text_scan.specs.Scan.{end_of}
 use Rattle.text_scan.proofs.Position.{rest_at}
 use Rattle.line_lists.proofs.Gather.{many-end, many_more}
 use Rattle.line_lists.proofs.Held.{min-leb}
-use Rattle.record.specs.Reading.{value_of, values_of}
 use Rattle.record.specs.Record.{total, value_in_range, record_sound}
 use Rattle.record.proofs.RecordLaws.{total-append}
-use Rattle.record_text.specs.Piece.{RawPiece, readings_in, piece_line}
-use Rattle.record_text.specs.Text.{record_form, read_record, durations_of, readings_of, counts_fit, pieces_sound, pieces_refusal}
+use Rattle.record_text.specs.Piece.{RawPiece, values_in, piece_line}
+use Rattle.record_text.specs.Text.{record_form, read_record, durations_of, values_of, counts_fit, pieces_sound, pieces_refusal}
 use Rattle.record_text.proofs.LineLaws.{ended-faithful, ended-long, records, render_long}
 use Rattle.record_read.specs.declared.Checked.TheVariants.{Sound, Refused}
 use Rattle.record_read.specs.declared.LineRead.{LineRead}
@@ -49,7 +48,7 @@ turn_is n s l f k ef ek = λ i. record { form = s.form && l.found; sound = s.sou
 -- ---- the rules of a record, line by line
 
 unfoldable pub piece_sound : (channels : ℕ) → RawPiece → Bool
-piece_sound n p = leb 1 p.duration && all value_in_range (values_of (readings_in p)) && eqb (length (readings_in p)) n
+piece_sound n p = leb 1 p.duration && all value_in_range (values_in p) && eqb (length (values_in p)) n
 
 min_eqb : (c n m : ℕ) → n < c → eqb (min c m) n ≡ eqb m n
 min_eqb c n m h = by-test (eqb m n)
@@ -58,7 +57,7 @@ min_eqb c n m h = by-test (eqb m n)
 
 line_sound-is : (n : ℕ) → n ≤ 255 → (t : Bytes) (p : RawPiece) (r : Bytes) → line_sound n (line_in t (got p r)) ≡ piece_sound n p
 unfolding line_sound gathered_values piece_sound
-line_sound-is n h t p r = rw (least p.duration, min_eqb 256 n (length (readings_in p)) (omega arith)) refl
+line_sound-is n h t p r = rw (least p.duration, min_eqb 256 n (length (values_in p)) (omega arith)) refl
   where
     least : (d : ℕ) → leb 1 (min limit d) ≡ leb 1 d
     least d = by-test (leb 1 d)
@@ -75,36 +74,32 @@ reorder true false c true y z = refl
 reorder true false c false y z = refl
 reorder false b c x y z = refl
 
-all_pieces : (n : ℕ) (rs : List RawPiece) → all (piece_sound n) rs ≡ all (leb 1) (durations_of rs) && all value_in_range (values_of (readings_of rs)) && counts_fit n rs
-unfolding piece_sound durations_of readings_of counts_fit
+all_pieces : (n : ℕ) (rs : List RawPiece) → all (piece_sound n) rs ≡ all (leb 1) (durations_of rs) && all value_in_range (values_of rs) && counts_fit n rs
+unfolding piece_sound durations_of values_of counts_fit
 all_pieces n [] = refl
 all_pieces n (r ∷ rs) =
     let lasts = all (leb 1) (durations_of rs) in
     let counts = counts_fit n rs in
-    let here = values_of (readings_in r) in
-    let rest = values_of (readings_of rs) in
     ap (λ (b : Bool). piece_sound n r && b) (all_pieces n rs)
-    ∙ reorder (leb 1 r.duration) (all value_in_range here) (eqb (length (readings_in r)) n) lasts (all value_in_range rest) counts
-    ∙ ap (λ (b : Bool). (leb 1 r.duration && lasts) && b && (eqb (length (readings_in r)) n && counts))
-    (sym (all_append value_in_range here rest) ∙ ap (all value_in_range) (sym (map-append value_of (readings_in r) (readings_of rs))))
+    ∙ reorder (leb 1 r.duration) (all value_in_range (values_in r)) (eqb (length (values_in r)) n) lasts (all value_in_range (values_of rs)) counts
+    ∙ ap (λ (b : Bool). (leb 1 r.duration && lasts) && b && (eqb (length (values_in r)) n && counts)) (sym (all_append value_in_range (values_in r) (values_of rs)))
 
-counts-agree : (n : ℕ) (rs : List RawPiece) → counts_fit n rs ≡ true → length (readings_of rs) ≡ length (durations_of rs) * n
-unfolding durations_of readings_of counts_fit
+counts-agree : (n : ℕ) (rs : List RawPiece) → counts_fit n rs ≡ true → length (values_of rs) ≡ length (durations_of rs) * n
+unfolding durations_of values_of counts_fit
 counts-agree n [] h = omega arith
 counts-agree n (r ∷ rs) h =
-    let k = both (eqb (length (readings_in r)) n) (counts_fit n rs) h in
-    rw (length-append (readings_in r) (readings_of rs)) (omega (arith, eqb-true (length (readings_in r)) n k.0, counts-agree n rs k.1, suc-mul (length (durations_of rs)) n))
+    let k = both (eqb (length (values_in r)) n) (counts_fit n rs) h in
+    rw (length-append (values_in r) (values_of rs)) (omega (arith, eqb-true (length (values_in r)) n k.0, counts-agree n rs k.1, suc-mul (length (durations_of rs)) n))
 
 -- all rules together; a text within its limit has few pieces
 pub sound-is : (n : ℕ) (rs : List RawPiece) → length rs ≤ 4_096 → pieces_sound n rs ≡ all (piece_sound n) rs && leb (min limit (total (durations_of rs))) 2_147_483_647
 unfolding pieces_sound record_sound durations_of
 sound-is n rs few =
     let ds = durations_of rs in
-    let vs = values_of (readings_of rs) in
     let size : leb (length ds) 4_096 ≡ true = le-leb (length ds) 4_096 (omega (arith, length-map rs (λ (r : RawPiece). r.duration))) in
     rw (all_pieces n rs, min-leb limit 2_147_483_647 (total ds) (omega arith), size) (by-test (counts_fit n rs)
-    (λ t. rw (t, eq-eqb (length vs) (length ds * n) (length-map (readings_of rs) value_of ∙ counts-agree n rs t)) (kept (all (leb 1) ds) (leb (total ds) 2_147_483_647) (all value_in_range vs)))
-    (λ t. rw t (none_kept (all (leb 1) ds) (leb (total ds) 2_147_483_647) (all value_in_range vs))))
+    (λ t. rw (t, eq-eqb (length (values_of rs)) (length ds * n) (counts-agree n rs t)) (kept (all (leb 1) ds) (leb (total ds) 2_147_483_647) (all value_in_range (values_of rs))))
+    (λ t. rw t (none_kept (all (leb 1) ds) (leb (total ds) 2_147_483_647) (all value_in_range (values_of rs)))))
   where
     kept : (b c d : Bool) → (b && c && d) && true ≡ (b && d && true) && c
     kept true true true = refl

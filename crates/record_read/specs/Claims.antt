@@ -3,13 +3,12 @@ use Rattle.std.specs.Prelude.{ℕ, ◌≤◌, ◌<◌, ◌≡◌, ◌↔◌, Lis
 use Rattle.std.proofs.Math.Option.{none, some}
 use Rattle.pattern_text.specs.Bytes.{Bytes}
 use Rattle.pattern_text.specs.Text.{pad}
-use Rattle.record.specs.Reading.{values_of, flags_of}
-use Rattle.record_text.specs.Piece.{RawPiece, readings_in}
+use Rattle.record_text.specs.Piece.{RawPiece, values_in}
 use Rattle.record_text.specs.Text.{render_record, read_record, record_refusal}
 use Rattle.record_read.specs.Line.{piece_at}
 
 -- In a text that is not refused, each piece stands where the text of those before it ends: its duration, its values and then
--- zeros, where the next one begins, and a flag for each channel, 0 where the reading was lost and else 1.
+-- zeros, and where the next one begins.
 abbrev pub PiecesRead : Type 0
 PiecesRead =
     (channels : ℕ) (t : Bytes) (before : List RawPiece) (r : RawPiece) (after : List RawPiece)
@@ -17,12 +16,7 @@ PiecesRead =
     → read_record t ≡ some (before ++ r ∷ after)
     → record_refusal channels t ≡ none
     → piece_at t (length (render_record before))
-    ≡ record {
-      duration = r.duration;
-      values = pad 8 (pos 0) (values_of (readings_in r));
-      next = length (render_record (before ++ (r ∷ [])));
-      read = pad 8 1 (flags_of (readings_in r));
-    }
+    ≡ record { duration = r.duration; values = pad 8 (pos 0) (values_in r); next = length (render_record (before ++ (r ∷ []))) }
 
 -- From whatever position in whatever text, the next one is further on, and not past the end: a walk ends.
 abbrev pub PiecesEnd : Type 0

@@ -1,7 +1,7 @@
-// Read a record's text (document 01, 'The watch program'; document 02, R-7): check it whole, then walk it piece by piece.
+// Read a record's text (document 01, 'The watch program'): check it whole, then walk it piece by piece.
 ghost use Rattle.std.specs.Prelude.{◌≡◌, ◌+◌, ◌≤◌, min, length};
 ghost use Rattle.record_text.specs.Text.{read_record, pieces_refusal, record_refusal};
-ghost use Rattle.record_read.specs.Line.{limit, no_values, add_value, lost_at, value_at, value_turn, values_at, line_at, piece_at};
+ghost use Rattle.record_read.specs.Line.{limit, no_values, add_value, value_at, value_turn, values_at, line_at, piece_at};
 ghost use Rattle.record_read.specs.Check.{checked_of, checked_as, check_number, line_sound, start_walk, turned, finish_of};
 
 use pattern::Refusal;
@@ -14,32 +14,21 @@ pub enum Checked {
     Refused(Refusal),
 }
 
-// A piece, and where the next one begins. In `read`, 1 says that the channel was read, 0 that its reading was lost; its value
-// then is 0. Channels that the record lacks are zeros that count as read.
+// A piece, and where the next one begins. Channels that the record lacks are zeros.
 #[derive(Drop)]
 pub struct PieceRead {
     pub duration: u32,
     pub values: [i32; 8],
     pub next: usize,
-    pub read: [u8; 8],
-}
-
-// What stands where a value may: a value, held at 1,000,001 and -1,000,001, or `?`; and where it ends.
-#[derive(Drop)]
-pub enum ValueRead {
-    Broken,
-    Lost(usize),
-    Value(i32, usize),
 }
 
 // The values of a line as read so far: the first eight, their number held at 256, which no count of channels reaches, and
-// whether each is in range. In `read`, 0 where the reading was lost, and else 1.
+// whether each is in range.
 #[derive(Drop)]
 pub struct Values {
     pub values: [i32; 8],
     pub count: u32,
     pub inrange: bool,
-    pub read: [u8; 8],
 }
 
 // `more`: whether another may follow at `next`.
@@ -74,7 +63,6 @@ fn no_values() -> Values
         values: [0; 8],
         count: 0,
         inrange: true,
-        read: [1; 8],
     }
 }
 
@@ -84,9 +72,9 @@ fn counted(count: u32) -> u32
     if count < 256 { count + 1 } else { 256 }
 }
 
-// One value more, with its flag.
-fn add_value(s: Values, value: i32, read: u8) -> Values
-    ensures { result ≡ add_value s value read }
+// One value more.
+fn add_value(s: Values, value: i32) -> Values
+    ensures { result ≡ add_value s value }
 {
     let inrange = line_parts::both(s.inrange, record::rules::in_range(value));
     let n = s.count as usize;
@@ -95,37 +83,22 @@ fn add_value(s: Values, value: i32, read: u8) -> Values
     r.inrange = inrange;
     if n < 8 {
         r.values[n] = value;
-        r.read[n] = read;
     }
     r
 }
 
-// `?`
-fn lost_at(text: &[u8], at: usize) -> ValueRead
-    requires { at ≤ length text.now }
-    ensures { result ≡ lost_at text.now at }
-{
-    match text_scan::word_at(text, at, b"?") {
-        Found::At(next) => ValueRead::Lost(next),
-        Found::Nothing => ValueRead::Broken,
-    }
-}
-
-// A space, and a value or `?`.
-fn value_at(text: &[u8], at: usize) -> ValueRead
+// A space and a value.
+fn value_at(text: &[u8], at: usize) -> Integer
     requires { at ≤ length text.now }
     ensures { result ≡ value_at text.now at }
 {
     let Found::At(start) = text_scan::word_at(text, at, b" ") else {
-        return ValueRead::Broken;
+        return Integer::Broken;
     };
-    match text_scan::integer_at(text, start) {
-        Integer::Value(v, next) => ValueRead::Value(v, next),
-        Integer::Broken => lost_at(text, start),
-    }
+    text_scan::integer_at(text, start)
 }
 
-// The value that stands there, if there is one. A lost one holds 0.
+// The value that stands there, if there is one.
 fn value_turn(text: &[u8], s: ValuesRead) -> ValuesRead
     requires { s.next ≤ length text.now }
     ensures { result ≡ value_turn text.now s }
@@ -133,21 +106,13 @@ fn value_turn(text: &[u8], s: ValuesRead) -> ValuesRead
     let at = s.next;
     let values = s.values;
     match value_at(text, at) {
-        ValueRead::Broken => ValuesRead {
+        Integer::Broken => ValuesRead {
             values,
             next: at,
             more: false,
         },
-        ValueRead::Lost(next) => {
-            let values = add_value(values, 0, 0);
-            ValuesRead {
-                values,
-                next,
-                more: true,
-            }
-        }
-        ValueRead::Value(v, next) => {
-            let values = add_value(values, v, 1);
+        Integer::Value(v, next) => {
+            let values = add_value(values, v);
             ValuesRead {
                 values,
                 next,
@@ -238,13 +203,11 @@ pub fn piece_at(text: &[u8], at: usize) -> PieceRead
     let duration = line.duration;
     let list = line.values;
     let values = list.values;
-    let read = list.read;
     let next = line.next;
     PieceRead {
         duration,
         values,
         next,
-        read,
     }
 }
 

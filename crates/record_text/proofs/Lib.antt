@@ -1,4 +1,3 @@
 -- Laws: the record text.
 pub mod LineLaws
 pub mod Theorems
-pub mod Marks

@@ -1,55 +1,31 @@
 -- Lines of a record text, and the whole of it, are read as they are written.
 use Prim.Native.Nat.{◌+◌, ◌*◌, ◌≤◌, ◌<◌}
 use mathlib.Core.Path.{◌≡◌, refl, sym, ap, ◌∙◌}
-use mathlib.Core.Logic.{◌↔◌, ◌⊎◌, inl, inr}
+use mathlib.Core.Logic.{◌↔◌}
 use mathlib.Core.List.{List, [], ◌∷◌, ◌++◌, append-nil, append_assoc}
-use mathlib.Core.Option.{none, some}
+use mathlib.Core.Option.{some}
 use native.Mathlib.Omega.{arith}
 use lib.ListN.{length, length-append}
 use lib.IntN.{ℤ}
 use Rattle.pattern_text.specs.Bytes.{Bytes, bytes, broken}
-use Rattle.pattern_text.specs.Form.{strip, ◌▸◌, ◌◂◌, ◌⨾◌, first_of, one_of, write_many, many, mapped, integer}
-use Rattle.pattern_text.proofs.FormLaws.{Exact, Faithful, Any, NoDigit, Last, ▸-exact, ◂-exact, ◂-faithful, ⨾-exact, mapped_exact, one_of_exact, either_exact, many_exact, many-faithful, number_exact, integer_exact}
-use Rattle.pattern_text.proofs.NumeralLaws.{no_numeral}
+use Rattle.pattern_text.specs.Form.{strip, ◌▸◌, ◌◂◌, ◌⨾◌, write_many, many, mapped}
+use Rattle.pattern_text.proofs.FormLaws.{Exact, Faithful, Any, NoDigit, Last, ▸-exact, ◂-exact, ◂-faithful, ⨾-exact, mapped_exact, many_exact, many-faithful, number_exact, integer_exact}
 use Rattle.pattern_text.proofs.LineLaws.{whole_inv}
-use Rattle.record.specs.Reading.{Reading}
-use Rattle.record_text.specs.Piece.{RawPiece, lost, of_parts, parts_of, value, piece_line}
+use Rattle.record_text.specs.Piece.{RawPiece, value, piece_line}
 use Rattle.record_text.specs.Text.{record_form, render_record, read_record}
 
 -- ---- a line
 
--- `?`, before whatever follows
-lost_exact : Exact lost Any
-unfolding lost first_of strip
-lost_exact = one_of_exact (λ _. "?") (tt ∷ []) (λ u r. refl) (λ u. refl)
-
--- no integer begins with it
-no_integer : (u : Unit) (r : Bytes) → integer.read (lost.write u ++ r) ≡ broken
-unfolding lost one_of integer strip
-no_integer u r = rw (no_numeral 63 r refl) refl
-
-in_parts : (a : ℤ ⊎ Unit {0}) → parts_of (of_parts a) ≡ a
-in_parts (inl v) = refl
-in_parts (inr u) = refl
-
-parts_in : (r : Reading) → of_parts (parts_of r) ≡ r
-parts_in none = refl
-parts_in (some v) = refl
-
 pub value_exact : Exact value NoDigit
 unfolding value
-value_exact = ▸-exact " " refl (mapped_exact of_parts parts_of (either_exact integer_exact before no_integer) in_parts parts_in)
-  where
-    -- what may follow an integer may follow `?`
-    before : Exact lost NoDigit
-    before = record { sound = lost_exact.sound; complete = λ u r h. lost_exact.complete u r tt; flat = lost_exact.flat }
+value_exact = ▸-exact " " refl integer_exact
 
-pub value-long : (v : Reading) → 0 < length (value.write v)
+pub value-long : (v : ℤ) → 0 < length (value.write v)
 unfolding value ◌▸◌
 value-long v = omega arith
 
 -- what follows a duration or a value is no digit
-pub value-starts : (v : Reading) (r : Bytes) → NoDigit (value.write v ++ r)
+pub value-starts : (v : ℤ) (r : Bytes) → NoDigit (value.write v ++ r)
 unfolding value ◌▸◌
 value-starts v r = refl
 
@@ -57,11 +33,11 @@ no_value : (r : Bytes) → value.read (bytes ")" ++ r) ≡ broken
 unfolding value ◌▸◌ strip
 no_value r = refl
 
-values-start : (b : Reading × List Reading) (r : Bytes) → NoDigit ((value ⨾ many value ◂ ")").write b ++ r)
+values-start : (b : ℤ × List ℤ) (r : Bytes) → NoDigit ((value ⨾ many value ◂ ")").write b ++ r)
 unfolding value ◌▸◌ ◌⨾◌
 values-start b r = refl
 
-further-start : (vs : List Reading) (r : Bytes) → NoDigit ((many value ◂ ")").write vs ++ r)
+further-start : (vs : List ℤ) (r : Bytes) → NoDigit ((many value ◂ ")").write vs ++ r)
 unfolding value ◌▸◌ ◌◂◌ many write_many
 further-start [] r = refl
 further-start (v ∷ vs) r = refl

@@ -16,8 +16,8 @@ use Rattle.pattern.specs.Refusal.{number_of}
 use Rattle.pattern_text.specs.Bytes.{Bytes}
 use Rattle.pattern_text.proofs.Tools.{both, by-test}
 use Rattle.record.specs.Record.{pieces_of}
-use Rattle.record_text.specs.Piece.{RawPiece, readings_in}
-use Rattle.record_text.specs.Text.{render_record, read_record, durations_of, readings_of, counts_fit, pieces_sound, pieces_refusal, record_refusal}
+use Rattle.record_text.specs.Piece.{RawPiece, values_in}
+use Rattle.record_text.specs.Text.{render_record, read_record, durations_of, values_of, counts_fit, pieces_sound, pieces_refusal, record_refusal}
 use Rattle.record_text.specs.Claims.{RecordsExact, Outcome, long, formless, unsound, sound, RefusalsExact, RefusalNumbers, piece_of, LinesArePieces}
 use Rattle.record_text.proofs.LineLaws.{records}
 
@@ -80,10 +80,10 @@ refusal_numbers channels t r e = go (some r) ((refusals_exact channels t (some r
 -- ---- lines are pieces
 
 pub lines_are_pieces : LinesArePieces
-unfolding durations_of readings_of pieces_of counts_fit
+unfolding durations_of values_of pieces_of counts_fit
 lines_are_pieces n [] h = refl
 lines_are_pieces n (r ∷ rs) h =
-    let k = both (eqb (length (readings_in r)) n) (counts_fit n rs) h in
-    let l = eqb-true (length (readings_in r)) n k.0 in
-    rw (take_at (readings_in r) (readings_of rs) n l, drop_at (readings_in r) (readings_of rs) n l)
+    let k = both (eqb (length (values_in r)) n) (counts_fit n rs) h in
+    let l = eqb-true (length (values_in r)) n k.0 in
+    rw (take_at (values_in r) (values_of rs) n l, drop_at (values_in r) (values_of rs) n l)
     (ap (◌∷◌ (piece_of r)) (lines_are_pieces n rs k.1))

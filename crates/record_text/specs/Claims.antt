@@ -1,15 +1,13 @@
 -- What is proved of a record's text. The proofs are in proofs/.
-use Rattle.std.specs.Prelude.{ℕ, ◌≤◌, ◌<◌, ◌≡◌, ◌↔◌, ◌⊎◌, Bool, true, false, not, List, map, eqb, length}
+use Rattle.std.specs.Prelude.{ℕ, ◌≤◌, ◌<◌, ◌≡◌, ◌↔◌, ◌⊎◌, true, false, List, map, length}
 use Rattle.std.proofs.Math.Option.{Option, none, some}
 use Rattle.pattern.specs.declared.Refusal.{Refusal}
 use Rattle.pattern.specs.declared.Refusal.TheVariants.{TextTooLong, BrokenForm, BrokenRecord}
 use Rattle.pattern.specs.Refusal.{number_of}
-use Rattle.pattern.specs.Slots.{all}
 use Rattle.pattern_text.specs.Bytes.{Bytes}
-use Rattle.record.specs.Reading.{is_read}
 use Rattle.record.specs.Record.{Piece, pieces_of}
-use Rattle.record_text.specs.Piece.{RawPiece, readings_in}
-use Rattle.record_text.specs.Text.{render_record, read_record, durations_of, readings_of, counts_fit, pieces_sound, record_refusal}
+use Rattle.record_text.specs.Piece.{RawPiece, values_in}
+use Rattle.record_text.specs.Text.{render_record, read_record, durations_of, values_of, counts_fit, pieces_sound, record_refusal}
 
 -- A text says rs exactly if it is the text of rs.
 abbrev pub RecordsExact : Type 0
@@ -36,16 +34,8 @@ RefusalNumbers = (channels : ℕ) (t : Bytes) (r : Refusal) → record_refusal c
 
 -- a line's piece
 abbrev pub piece_of : RawPiece → Piece
-piece_of r = record { duration = r.duration; sample = readings_in r }
+piece_of r = record { duration = r.duration; sample = values_in r }
 
--- The record that is made of the lines has a piece for each line, with the line's duration and readings.
+-- The record that is made of the lines has a piece for each line, with the line's duration and values.
 abbrev pub LinesArePieces : Type 0
-LinesArePieces = (channels : ℕ) (rs : List RawPiece) → counts_fit channels rs ≡ true → pieces_of channels (durations_of rs) (readings_of rs) ≡ map piece_of rs
-
--- any byte but `?`
-abbrev pub no_mark : ℕ → Bool
-no_mark c = not (eqb c 63)
-
--- In a text that has the form, every reading is a value exactly if no `?` stands in the text (document 02, R-7).
-abbrev pub NoMarkNoLoss : Type 0
-NoMarkNoLoss = (t : Bytes) (rs : List RawPiece) → read_record t ≡ some rs → all is_read (readings_of rs) ≡ all no_mark t
+LinesArePieces = (channels : ℕ) (rs : List RawPiece) → counts_fit channels rs ≡ true → pieces_of channels (durations_of rs) (values_of rs) ≡ map piece_of rs

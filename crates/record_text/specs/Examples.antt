@@ -1,4 +1,4 @@
--- Document 01's record, lost readings (document 02, R-7), and a few refusals, computed through the definitions.
+-- Document 01's record, and a few refusals, computed through the definitions.
 use Rattle.std.specs.Prelude.{ℕ, ◌≡◌, refl, List, [], ◌∷◌, pos, negsuc}
 use Prim.Native.String.{String}
 use Rattle.std.proofs.Math.Option.{Option, none, some}
@@ -6,15 +6,15 @@ use Rattle.pattern.specs.declared.Refusal.{Refusal}
 use Rattle.pattern.specs.declared.Refusal.TheVariants.{BrokenForm, BrokenRecord}
 use Rattle.pattern_text.specs.Bytes.{bytes}
 use Rattle.pattern_text.specs.Numeral.{decimal_f, decimal, front, after, plain, value_from, numeral_of}
-use Rattle.pattern_text.specs.Form.{strip, ◌▸◌, ◌◂◌, ◌⨾◌, first_of, one_of, either, write_many, read_many, many, mapped, number, write_ℤ, integer}
+use Rattle.pattern_text.specs.Form.{strip, ◌▸◌, ◌◂◌, ◌⨾◌, write_many, read_many, many, mapped, number, write_ℤ, integer}
 use Rattle.record.specs.Record.{total, record_sound}
-use Rattle.record_text.specs.Piece.{RawPiece, lost, value, piece_line}
-use Rattle.record_text.specs.Text.{record_form, render_record, read_record, durations_of, readings_of, counts_fit, pieces_sound, record_refusal}
+use Rattle.record_text.specs.Piece.{RawPiece, value, piece_line}
+use Rattle.record_text.specs.Text.{record_form, render_record, read_record, durations_of, values_of, counts_fit, pieces_sound, record_refusal}
 use Rattle.record_text.specs.Example.{example_text, example}
 
 -- a quoted text, with all that reading it computes by
 read_text : String → Option (List RawPiece)
-unfolding strip ◌▸◌ ◌◂◌ ◌⨾◌ first_of one_of either write_many read_many many mapped number write_ℤ integer decimal_f decimal front after plain value_from numeral_of total record_sound lost value piece_line record_form render_record read_record durations_of readings_of counts_fit pieces_sound record_refusal
+unfolding strip ◌▸◌ ◌◂◌ ◌⨾◌ write_many read_many many mapped number write_ℤ integer decimal_f decimal front after plain value_from numeral_of total record_sound value piece_line record_form render_record read_record durations_of values_of counts_fit pieces_sound record_refusal
 read_text s = read_record (bytes s)
 
 refused_for : (channels : ℕ) → String → Option Refusal
@@ -43,56 +43,9 @@ unfolding read_text refused_for
 empty-sound = refl
 
 -- three values, one of them below 0
-three : read_text "(piece 7 -12 0 305)\n" ≡ some (record { duration = 7; value = some (negsuc 11); further = some (pos 0) ∷ some (pos 305) ∷ [] } ∷ [])
+three : read_text "(piece 7 -12 0 305)\n" ≡ some (record { duration = 7; value = negsuc 11; further = pos 0 ∷ pos 305 ∷ [] } ∷ [])
 unfolding read_text
 three = refl
-
--- the second of two channels was lost; the only one was
-one-lost : read_text "(piece 2 10 ?)\n" ≡ some (record { duration = 2; value = some (pos 10); further = none ∷ [] } ∷ [])
-unfolding read_text
-one-lost = refl
-
-all-lost : read_text "(piece 1 ?)\n" ≡ some (record { duration = 1; value = none; further = [] } ∷ [])
-unfolding read_text
-all-lost = refl
-
-lost-sound : refused_for 2 "(piece 2 10 ?)\n(piece 1 ? ?)\n" ≡ none
-unfolding read_text refused_for
-lost-sound = refl
-
--- a lost reading counts as one of the piece's values
-lost_too_many : refused_for 1 "(piece 2 10 ?)\n" ≡ some BrokenRecord
-unfolding read_text refused_for
-lost_too_many = refl
-
-lost_too_few : refused_for 2 "(piece 1 ?)\n" ≡ some BrokenRecord
-unfolding read_text refused_for
-lost_too_few = refl
-
--- `?` stands alone after one space, and in the place of a value only
-two-marks : read_text "(piece 1 ??)\n" ≡ none
-unfolding read_text
-two-marks = refl
-
-minus-mark : read_text "(piece 1 -?)\n" ≡ none
-unfolding read_text
-minus-mark = refl
-
-digit-after-mark : read_text "(piece 1 ?1)\n" ≡ none
-unfolding read_text
-digit-after-mark = refl
-
-mark-after-digit : read_text "(piece 1 1?)\n" ≡ none
-unfolding read_text
-mark-after-digit = refl
-
-duration-lost : read_text "(piece ? 1)\n" ≡ none
-unfolding read_text
-duration-lost = refl
-
-two_spaces : read_text "(piece 1  ?)\n" ≡ none
-unfolding read_text
-two_spaces = refl
 
 -- no line feed; a leading zero; `-0`; no value; a minus before a duration; a place's line
 no_feed_lem : read_text "(piece 2 10)" ≡ none

@@ -1,5 +1,5 @@
--- A record's text: what it is read as, and what it is refused for (document 01, 'The watch program'; document 02, R-7).
-use Rattle.std.specs.Prelude.{ℕ, List, [], ◌∷◌, ◌++◌, map, Bool, cond, ◌&&◌, eqb, ltb, length}
+-- A record's text: what it is read as, and what it is refused for (document 01, 'The watch program').
+use Rattle.std.specs.Prelude.{ℕ, List, [], ◌∷◌, ◌++◌, map, Bool, cond, ◌&&◌, eqb, ltb, length, ℤ}
 use Rattle.std.proofs.Math.Option.{Option, none, some}
 use Rattle.pattern.specs.declared.Refusal.{Refusal}
 use Rattle.pattern.specs.declared.Refusal.TheVariants.{TextTooLong, BrokenForm, BrokenRecord}
@@ -7,9 +7,8 @@ use Rattle.pattern.specs.Slots.{all}
 use Rattle.pattern_text.specs.Bytes.{Bytes}
 use Rattle.pattern_text.specs.Form.{Form, ◌◂◌, many}
 use Rattle.pattern_text.specs.Line.{whole}
-use Rattle.record.specs.Reading.{Reading, values_of}
 use Rattle.record.specs.Record.{record_sound}
-use Rattle.record_text.specs.Piece.{RawPiece, readings_in, piece_line}
+use Rattle.record_text.specs.Piece.{RawPiece, values_in, piece_line}
 
 -- ---- the form
 
@@ -31,20 +30,20 @@ read_record t = whole (record_form.read t)
 unfoldable pub durations_of : List RawPiece → List ℕ
 durations_of rs = map (λ r. r.duration) rs
 
--- the readings, piece by piece
-unfoldable pub readings_of : List RawPiece → List Reading
-readings_of [] = []
-readings_of (r ∷ rs) = readings_in r ++ readings_of rs
+-- the values, piece by piece
+unfoldable pub values_of : List RawPiece → List ℤ
+values_of [] = []
+values_of (r ∷ rs) = values_in r ++ values_of rs
 
 -- ---- what a text is refused for
 
--- "one value per channel"; a lost one counts
+-- "one value per channel"
 unfoldable pub counts_fit : (channels : ℕ) → List RawPiece → Bool
-counts_fit n rs = all (λ r. eqb (length (readings_in r)) n) rs
+counts_fit n rs = all (λ r. eqb (length (values_in r)) n) rs
 
--- each piece has its readings, and the record keeps its rules; a channel that was not read holds 0, which is in range
+-- each piece has its values, and the record keeps its rules
 unfoldable pub pieces_sound : (channels : ℕ) → List RawPiece → Bool
-pieces_sound n rs = counts_fit n rs && record_sound n (durations_of rs) (values_of (readings_of rs))
+pieces_sound n rs = counts_fit n rs && record_sound n (durations_of rs) (values_of rs)
 
 -- "a broken form anywhere 2, then 8, a wrong count of values included"
 abbrev pub pieces_refusal : (channels : ℕ) → Option (List RawPiece) → Option Refusal

@@ -9,49 +9,47 @@ use Rattle.weighting.specs.declared.Weighing.TheVariants.{Margin, Sum}
 use Rattle.weighting.specs.Weighting.{combine_from}
 use Rattle.pattern.specs.Clocks.{guards_hold, after_resets}
 use Rattle.pattern.specs.Distance.{place_worth, distances_of}
-use Rattle.record.specs.Reading.{readings}
 use Rattle.record.specs.Record.{book_of, pieces_of, sample_at, ticks_of}
 use Rattle.record.specs.Joined.{agrees, absorb, joined, observed}
 use Rattle.record.specs.Run.{can_step, goes, is_run, length_of}
-use Rattle.record.specs.Stay.{can_stay, stay_open, stays_open}
 use Rattle.record.specs.Worth.{stay_worth, stay_worths, run_worth, price_of}
 use Rattle.monitor.specs.Demand.{InWindow, BestRun}
 use Rattle.pattern_text.specs.Example.{example}
-use Rattle.record_text.specs.Text.{durations_of, readings_of}
+use Rattle.record_text.specs.Text.{durations_of, values_of}
 use Rattle.starred.specs.Example.{book}
 use Rattle.starred.proofs.Runs.{two}
 use Rattle.starred.proofs.Ends.{looked, too_long_lem, best_run, good}
 
 margin-0_1_1 : price_of (example Margin) book 0 (two 1 1) ≡ some (pos 5)
-unfolding durations_of readings_of zip_with combine_from place_worth distances_of readings book_of pieces_of sample_at ticks_of agrees absorb joined observed can_step goes is_run length_of can_stay stay_open stays_open stay_worth stay_worths run_worth price_of guards_hold after_resets min_z
+unfolding durations_of values_of zip_with combine_from place_worth distances_of book_of pieces_of sample_at ticks_of agrees absorb joined observed can_step goes is_run length_of stay_worth stay_worths run_worth price_of guards_hold after_resets min_z
 margin-0_1_1 = refl
 
 margin_1_1_1 : price_of (example Margin) book 1 (two 1 1) ≡ some (pos 5)
-unfolding durations_of readings_of zip_with combine_from place_worth distances_of readings book_of pieces_of sample_at ticks_of agrees absorb joined observed can_step goes is_run length_of can_stay stay_open stays_open stay_worth stay_worths run_worth price_of guards_hold after_resets min_z
+unfolding durations_of values_of zip_with combine_from place_worth distances_of book_of pieces_of sample_at ticks_of agrees absorb joined observed can_step goes is_run length_of stay_worth stay_worths run_worth price_of guards_hold after_resets min_z
 margin_1_1_1 = refl
 
 margin-0_1_2 : price_of (example Margin) book 0 (two 1 2) ≡ some (pos 5)
-unfolding durations_of readings_of zip_with combine_from place_worth distances_of readings book_of pieces_of sample_at ticks_of agrees absorb joined observed can_step goes is_run length_of can_stay stay_open stays_open stay_worth stay_worths run_worth price_of guards_hold after_resets min_z
+unfolding durations_of values_of zip_with combine_from place_worth distances_of book_of pieces_of sample_at ticks_of agrees absorb joined observed can_step goes is_run length_of stay_worth stay_worths run_worth price_of guards_hold after_resets min_z
 margin-0_1_2 = refl
 
 margin-0-2_1 : price_of (example Margin) book 0 (two 2 1) ≡ some (pos 5)
-unfolding durations_of readings_of zip_with combine_from place_worth distances_of readings book_of pieces_of sample_at ticks_of agrees absorb joined observed can_step goes is_run length_of can_stay stay_open stays_open stay_worth stay_worths run_worth price_of guards_hold after_resets min_z
+unfolding durations_of values_of zip_with combine_from place_worth distances_of book_of pieces_of sample_at ticks_of agrees absorb joined observed can_step goes is_run length_of stay_worth stay_worths run_worth price_of guards_hold after_resets min_z
 margin-0-2_1 = refl
 
 margin-2_1_1 : price_of (example Margin) book 2 (two 1 1) ≡ some (negsuc 24)
-unfolding durations_of readings_of zip_with combine_from place_worth distances_of readings book_of pieces_of sample_at ticks_of agrees absorb joined observed can_step goes is_run length_of can_stay stay_open stays_open stay_worth stay_worths run_worth price_of guards_hold after_resets min_z
+unfolding durations_of values_of zip_with combine_from place_worth distances_of book_of pieces_of sample_at ticks_of agrees absorb joined observed can_step goes is_run length_of stay_worth stay_worths run_worth price_of guards_hold after_resets min_z
 margin-2_1_1 = refl
 
 margin_1_1_2 : price_of (example Margin) book 1 (two 1 2) ≡ some (pos 5)
-unfolding durations_of readings_of zip_with combine_from place_worth distances_of readings book_of pieces_of sample_at ticks_of agrees absorb joined observed can_step goes is_run length_of can_stay stay_open stays_open stay_worth stay_worths run_worth price_of guards_hold after_resets min_z
+unfolding durations_of values_of zip_with combine_from place_worth distances_of book_of pieces_of sample_at ticks_of agrees absorb joined observed can_step goes is_run length_of stay_worth stay_worths run_worth price_of guards_hold after_resets min_z
 margin_1_1_2 = refl
 
 margin_1_2_1 : price_of (example Margin) book 1 (two 2 1) ≡ some (negsuc 24)
-unfolding durations_of readings_of zip_with combine_from place_worth distances_of readings book_of pieces_of sample_at ticks_of agrees absorb joined observed can_step goes is_run length_of can_stay stay_open stays_open stay_worth stay_worths run_worth price_of guards_hold after_resets min_z
+unfolding durations_of values_of zip_with combine_from place_worth distances_of book_of pieces_of sample_at ticks_of agrees absorb joined observed can_step goes is_run length_of stay_worth stay_worths run_worth price_of guards_hold after_resets min_z
 margin_1_2_1 = refl
 
 margin-0-2-2 : price_of (example Margin) book 0 (two 2 2) ≡ some (pos 5)
-unfolding durations_of readings_of zip_with combine_from place_worth distances_of readings book_of pieces_of sample_at ticks_of agrees absorb joined observed can_step goes is_run length_of can_stay stay_open stays_open stay_worth stay_worths run_worth price_of guards_hold after_resets min_z
+unfolding durations_of values_of zip_with combine_from place_worth distances_of book_of pieces_of sample_at ticks_of agrees absorb joined observed can_step goes is_run length_of stay_worth stay_worths run_worth price_of guards_hold after_resets min_z
 margin-0-2-2 = refl
 
 there-margin-2 : InWindow (example Margin) book 2 2 (pos 5)
@@ -115,35 +113,35 @@ margin-end_4 =
     })
 
 sum-0_1_1 : price_of (example Sum) book 0 (two 1 1) ≡ some (pos 10)
-unfolding durations_of readings_of zip_with combine_from place_worth distances_of readings book_of pieces_of sample_at ticks_of agrees absorb joined observed can_step goes is_run length_of can_stay stay_open stays_open stay_worth stay_worths run_worth price_of guards_hold after_resets min_z
+unfolding durations_of values_of zip_with combine_from place_worth distances_of book_of pieces_of sample_at ticks_of agrees absorb joined observed can_step goes is_run length_of stay_worth stay_worths run_worth price_of guards_hold after_resets min_z
 sum-0_1_1 = refl
 
 sum_1_1_1 : price_of (example Sum) book 1 (two 1 1) ≡ some (pos 40)
-unfolding durations_of readings_of zip_with combine_from place_worth distances_of readings book_of pieces_of sample_at ticks_of agrees absorb joined observed can_step goes is_run length_of can_stay stay_open stays_open stay_worth stay_worths run_worth price_of guards_hold after_resets min_z
+unfolding durations_of values_of zip_with combine_from place_worth distances_of book_of pieces_of sample_at ticks_of agrees absorb joined observed can_step goes is_run length_of stay_worth stay_worths run_worth price_of guards_hold after_resets min_z
 sum_1_1_1 = refl
 
 sum-0_1_2 : price_of (example Sum) book 0 (two 1 2) ≡ some (pos 45)
-unfolding durations_of readings_of zip_with combine_from place_worth distances_of readings book_of pieces_of sample_at ticks_of agrees absorb joined observed can_step goes is_run length_of can_stay stay_open stays_open stay_worth stay_worths run_worth price_of guards_hold after_resets min_z
+unfolding durations_of values_of zip_with combine_from place_worth distances_of book_of pieces_of sample_at ticks_of agrees absorb joined observed can_step goes is_run length_of stay_worth stay_worths run_worth price_of guards_hold after_resets min_z
 sum-0_1_2 = refl
 
 sum-0-2_1 : price_of (example Sum) book 0 (two 2 1) ≡ some (pos 40)
-unfolding durations_of readings_of zip_with combine_from place_worth distances_of readings book_of pieces_of sample_at ticks_of agrees absorb joined observed can_step goes is_run length_of can_stay stay_open stays_open stay_worth stay_worths run_worth price_of guards_hold after_resets min_z
+unfolding durations_of values_of zip_with combine_from place_worth distances_of book_of pieces_of sample_at ticks_of agrees absorb joined observed can_step goes is_run length_of stay_worth stay_worths run_worth price_of guards_hold after_resets min_z
 sum-0-2_1 = refl
 
 sum-2_1_1 : price_of (example Sum) book 2 (two 1 1) ≡ some (pos 10)
-unfolding durations_of readings_of zip_with combine_from place_worth distances_of readings book_of pieces_of sample_at ticks_of agrees absorb joined observed can_step goes is_run length_of can_stay stay_open stays_open stay_worth stay_worths run_worth price_of guards_hold after_resets min_z
+unfolding durations_of values_of zip_with combine_from place_worth distances_of book_of pieces_of sample_at ticks_of agrees absorb joined observed can_step goes is_run length_of stay_worth stay_worths run_worth price_of guards_hold after_resets min_z
 sum-2_1_1 = refl
 
 sum_1_1_2 : price_of (example Sum) book 1 (two 1 2) ≡ some (pos 40)
-unfolding durations_of readings_of zip_with combine_from place_worth distances_of readings book_of pieces_of sample_at ticks_of agrees absorb joined observed can_step goes is_run length_of can_stay stay_open stays_open stay_worth stay_worths run_worth price_of guards_hold after_resets min_z
+unfolding durations_of values_of zip_with combine_from place_worth distances_of book_of pieces_of sample_at ticks_of agrees absorb joined observed can_step goes is_run length_of stay_worth stay_worths run_worth price_of guards_hold after_resets min_z
 sum_1_1_2 = refl
 
 sum_1_2_1 : price_of (example Sum) book 1 (two 2 1) ≡ some (pos 15)
-unfolding durations_of readings_of zip_with combine_from place_worth distances_of readings book_of pieces_of sample_at ticks_of agrees absorb joined observed can_step goes is_run length_of can_stay stay_open stays_open stay_worth stay_worths run_worth price_of guards_hold after_resets min_z
+unfolding durations_of values_of zip_with combine_from place_worth distances_of book_of pieces_of sample_at ticks_of agrees absorb joined observed can_step goes is_run length_of stay_worth stay_worths run_worth price_of guards_hold after_resets min_z
 sum_1_2_1 = refl
 
 sum-0-2-2 : price_of (example Sum) book 0 (two 2 2) ≡ some (pos 40)
-unfolding durations_of readings_of zip_with combine_from place_worth distances_of readings book_of pieces_of sample_at ticks_of agrees absorb joined observed can_step goes is_run length_of can_stay stay_open stays_open stay_worth stay_worths run_worth price_of guards_hold after_resets min_z
+unfolding durations_of values_of zip_with combine_from place_worth distances_of book_of pieces_of sample_at ticks_of agrees absorb joined observed can_step goes is_run length_of stay_worth stay_worths run_worth price_of guards_hold after_resets min_z
 sum-0-2-2 = refl
 
 there-sum-2 : InWindow (example Sum) book 2 2 (pos 10)

@@ -4,7 +4,7 @@ use native.Mathlib.Omega.{arith}
 use mathlib.Core.Path.{◌≡◌, refl, sym, ap, subst}
 use mathlib.Core.Logic.{◌⊎◌, inl, inr, ⊎_elim}
 use mathlib.Core.List.{List, [], ◌∷◌, zip_with}
-use mathlib.Core.Option.{none, some, none-ne-some}
+use mathlib.Core.Option.{Option, none, some, none-ne-some}
 use mathlib.Core.Bool.{Bool, true, false, cond, ◌&&◌}
 use borrow.Author.Tests.{ltb-true, leb-true}
 use lib.Dec.{ltb, leb}
@@ -17,7 +17,6 @@ use Rattle.pattern.specs.Clocks.{Clocks, zero_clocks, later, guards_hold, after_
 use Rattle.pattern.proofs.SoundLaws.{both}
 use Rattle.record.specs.Record.{Book}
 use Rattle.record.specs.Run.{Step, can_step, goes, is_run, length_of}
-use Rattle.record.specs.Stay.{stays_open}
 use Rattle.record.specs.Worth.{price_of, run_worth}
 use Rattle.record.proofs.StepLaws.{can-parts}
 use Rattle.pattern_text.specs.Example.{example}
@@ -108,8 +107,8 @@ module _ (w : Weighing) where
 
   pub priced_run : (b : Book) (begin : ℕ) (xs : List Step) (v : ℤ) → price_of (example w) b begin xs ≡ some v → is_run (example w) xs ≡ true
   unfolding price_of
-  priced_run b begin xs v = by (is_run (example w) xs) (leb (begin + length_of xs) (length b)) (stays_open (example w) b begin xs)
+  priced_run b begin xs v = by (is_run (example w) xs) (leb (begin + length_of xs) (length b))
     where
-      by : (x y z : Bool) → cond (x && y && z) (some (run_worth (example w) b begin xs)) none ≡ some v → x ≡ true
-      by true y z e = refl
-      by false y z e = absurd (none-ne-some v e)
+      by : (x y : Bool) → cond (x && y) (some (run_worth (example w) b begin xs)) none ≡ some v → x ≡ true
+      by true y e = refl
+      by false y e = absurd (none-ne-some v e)

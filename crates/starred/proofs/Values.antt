@@ -10,13 +10,11 @@ use Rattle.pattern.specs.Clocks.{guards_hold, after_resets}
 use Rattle.pattern.specs.Distance.{place_worth, distances_of}
 use Rattle.pattern_text.specs.Examples as pattern-text
 use Rattle.pattern_read.specs.Reading.{due_to}
-use Rattle.record.specs.Reading.{readings, read_sound}
-use Rattle.record.specs.Record.{total, record_sound, lent_sound, book_of, pieces_of, sample_at, ticks_of}
+use Rattle.record.specs.Record.{total, record_sound, book_of, pieces_of, sample_at, ticks_of}
 use Rattle.record.specs.Joined.{agrees, absorb, joined, observed}
 use Rattle.record.specs.Run.{can_step, goes, is_run, length_of, steps_of}
-use Rattle.record.specs.Stay.{can_stay, stay_open, stays_open}
 use Rattle.record.specs.Worth.{stay_worth, stay_worths, run_worth, price_of}
-use Rattle.record_text.specs.Text.{durations_of, readings_of}
+use Rattle.record_text.specs.Text.{durations_of, values_of}
 use Rattle.record_text.specs.Example.{example_text}
 use Rattle.record_text.specs.Examples as record-text
 use Rattle.record_read.specs.Check.{checked_of, checked_as, check_number}
@@ -30,7 +28,7 @@ accepted : check_number 1 example_text ≡ 0
 accepted = sym (check_numbers 1 example_text) ∙ ap (λ o. checked_as (checked_of o)) record-text.sound
 
 pub starred_hold : Starred
-unfolding durations_of readings_of flat_map slots test_unused guard_unused place_unused edge_unused bound_in_range test_in_range test_known unsaid_zero test_sound guard_in_range guard_known header_in_range place_sound edge_sound sound_of bounds_on largest ceiling_of clock_cells cells_for cells_needed steps_fit record_sound read_sound lent_sound total readings book_of pieces_of sample_at ticks_of agrees absorb joined observed can_step goes is_run length_of steps_of can_stay stay_open stays_open stay_worth stay_worths run_worth price_of guards_hold after_resets zip_with combine_from place_worth distances_of
+unfolding durations_of values_of flat_map slots test_unused guard_unused place_unused edge_unused bound_in_range test_in_range test_known unsaid_zero test_sound guard_in_range guard_known header_in_range place_sound edge_sound sound_of bounds_on largest ceiling_of clock_cells cells_for cells_needed steps_fit record_sound total book_of pieces_of sample_at ticks_of agrees absorb joined observed can_step goes is_run length_of steps_of stay_worth stay_worths run_worth price_of guards_hold after_resets zip_with combine_from place_worth distances_of
 starred_hold = (
   ap due_to (pattern-text.reads Margin),
   (

@@ -10,7 +10,7 @@ use Rattle.record_text.specs.Example as record-text
 use Rattle.record_read.specs.Check.{check_number}
 use Rattle.price.specs.Price.{priced_numbers}
 use Rattle.monitor.specs.Demand.{BestRun, NoRun}
-use Rattle.starred.specs.Example.{durations, values, read, book}
+use Rattle.starred.specs.Example.{durations, values, book}
 
 -- each claim of a list holds
 abbrev pub Each : List (Type 0) → Type 0
@@ -38,9 +38,9 @@ starred =
     ∷ BestRun (example Sum) book 3 (pos 40) 2
     ∷ BestRun (example Sum) book 4 (pos 10) 2
     -- "Sum, begin 0, edges 0 then 1, stays 2 and 1: 40, for the first piece counts 5 once."
-    ∷ (priced_numbers (example Sum) durations values read 0 (0 ∷ 1 ∷ []) (2 ∷ 1 ∷ []) ≡ (0, pos 40))
+    ∷ (priced_numbers (example Sum) durations values 0 (0 ∷ 1 ∷ []) (2 ∷ 1 ∷ []) ≡ (0, pos 40))
     -- "Same edges, stays 3 and 1: refusal 10, clock 3 is not below 3."
-    ∷ (priced_numbers (example Sum) durations values read 0 (0 ∷ 1 ∷ []) (3 ∷ 1 ∷ []) ≡ (10, pos 0))
+    ∷ (priced_numbers (example Sum) durations values 0 (0 ∷ 1 ∷ []) (3 ∷ 1 ∷ []) ≡ (10, pos 0))
     ∷ []
 
 -- Theorem: every starred value is as document 01 says.

@@ -1,16 +1,15 @@
 -- An entry that passed its test fits the machine's type.
-use Prim.Native.Nat.{ℕ, suc, ◌-◌, ◌≤◌}
+use Prim.Native.Nat.{ℕ, ◌≤◌}
 use native.Mathlib.Omega.{arith}
-use mathlib.Core.Path.{◌≡◌, refl}
+use mathlib.Core.Path.{◌≡◌}
 use mathlib.Core.Bool.{true}
-use borrow.Author.Tests.{leb-true, ne_eqb}
-use lib.Dec.{T, eqb}
+use borrow.Author.Tests.{leb-true}
+use lib.Dec.{T}
 use lib.IntN.{ℤ, pos, negsuc, nat_abs}
 use lib.Signed.{le_z, non_neg}
-use mir.Syntax.{w32, w64}
-use mir.Val.{Fits, SFits, of_z}
+use mir.Syntax.{w32}
+use mir.Val.{Fits, SFits}
 use Rattle.integers.proofs.Linear.{le_of, of_le, pos_is, negsuc_is, abs_is, mag_is}
-use Rattle.pattern.specs.Sound.{is_null}
 use Rattle.pattern.proofs.SoundLaws.{both}
 use Rattle.record.specs.Record.{value_in_range}
 use Rattle.state_slice.specs.Slice.{is_ticks, is_value}
@@ -42,8 +41,3 @@ unfolding is_value
 in-range-is-value z e =
     let h = leb-true (nat_abs z) 1000000 e in
     rw (of_le (negsuc 2147483647) z (omega (arith, abs_is z, negsuc_is 2147483647)), of_le z (pos 2147483647) (omega (arith, abs_is z, pos_is 2147483647)))
-
--- zero is told by its bits
-pub null_wide : (z : ℤ) → SFits w64 z → eqb (of_z w64 z) 0 ≡ is_null z
-null_wide (pos n) h = refl
-null_wide (negsuc n) h = ne_eqb (18446744073709551616 - suc n) 0 (λ e. omega (arith, h.sfits))

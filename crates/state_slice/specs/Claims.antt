@@ -1,19 +1,16 @@
 -- What is claimed of a state's slice; the proofs are in proofs/.
-use Rattle.std.specs.Prelude.{◌≤◌, ◌≡◌, List, ◌++◌, map, true, cond, leb, length, take, drop, ℤ, pos}
+use Rattle.std.specs.Prelude.{◌≤◌, ◌≡◌, List, true, length, ℤ}
 use Rattle.pattern.specs.Slots.{all}
-use Rattle.pattern.specs.Sound.{is_null}
 use Rattle.monitor.specs.declared.State.{State}
 use Rattle.state_slice.specs.Slice.{is_value, holds_state, state_in, with_state}
 
--- A state that a slice can hold: 32 bits of ticks, 8 values of 32 bits, 8 flags, each 0 or 1.
+-- A value of the type State: 32 bits of ticks, 8 values of 32 bits.
 pub record IsState (s : State) : Type 0 where
   pub ticks : s.ticks ≤ 4_294_967_295
   pub count : length s.last ≡ 8
   pub values : all is_value s.last ≡ true
-  pub flag_count : length s.read ≡ 8
-  pub flags : all (λ f. leb f 1) s.read ≡ true
 
--- Theorem: what a slice holds is such a state.
+-- Theorem: what a slice holds is such a value.
 abbrev pub HeldIsState : Type 0
 HeldIsState = (l : List ℤ) → holds_state l ≡ true → IsState (state_in l)
 
@@ -21,12 +18,10 @@ HeldIsState = (l : List ℤ) → holds_state l ≡ true → IsState (state_in l)
 abbrev pub WrittenIsRead : Type 0
 WrittenIsRead = (s : State) (l : List ℤ) → IsState s → (holds_state (with_state s l) ≡ true) × (state_in (with_state s l) ≡ s)
 
--- Theorem: to write the state that a slice holds alters nothing but flags that are neither 0 nor 1, which become 1.
+-- Theorem: to write the state that a slice holds alters nothing.
 abbrev pub ReadIsWritten : Type 0
-ReadIsWritten =
-    (l : List ℤ) → holds_state l ≡ true
-    → with_state (state_in l) l ≡ take 9 l ++ (map (λ z. cond (is_null z) (pos 0) (pos 1)) (take 8 (drop 9 l)) ++ drop 17 l)
+ReadIsWritten = (l : List ℤ) → holds_state l ≡ true → with_state (state_in l) l ≡ l
 
 -- Theorem: the slice keeps its length, if it is long enough to hold a state.
 abbrev pub LengthKept : Type 0
-LengthKept = (s : State) (l : List ℤ) → length s.last ≡ 8 → length s.read ≡ 8 → 17 ≤ length l → length (with_state s l) ≡ length l
+LengthKept = (s : State) (l : List ℤ) → length s.last ≡ 8 → 9 ≤ length l → length (with_state s l) ≡ length l

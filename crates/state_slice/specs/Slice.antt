@@ -1,9 +1,7 @@
--- The monitor's state as a lent slice of signed 64-bit numbers: entry 0 the ticks, entries 1 to 8 the last values, entries 9 to 16
--- their flags (document 02, R-7).
-use Rattle.std.specs.Prelude.{ℕ, List, ◌∷◌, ◌++◌, map, Bool, cond, ◌&&◌, leb, length, take, drop, get_or, ℤ, pos, negsuc, nat_abs}
+-- The monitor's state as a lent slice of signed 64-bit numbers: entry 0 the ticks, entries 1 to 8 the last values.
+use Rattle.std.specs.Prelude.{List, ◌∷◌, ◌++◌, Bool, ◌&&◌, leb, length, take, drop, get_or, ℤ, pos, negsuc, nat_abs}
 use Rattle.std.specs.Int.Signed.{le_z}
 use Rattle.pattern.specs.Slots.{all}
-use Rattle.pattern.specs.Sound.{is_null}
 use Rattle.monitor.specs.declared.State.{State}
 
 -- What a state's ticks can be: 0 to 4,294,967,295.
@@ -18,26 +16,14 @@ is_value z = le_z (negsuc 2_147_483_647) z && le_z z (pos 2_147_483_647)
 abbrev pub last_in : List ℤ → List ℤ
 last_in l = take 8 (drop 1 l)
 
--- A flag: 0 where the channel was not read. Any other number says that it was, and every number says something.
-abbrev pub flag_in : ℤ → ℕ
-flag_in z = cond (is_null z) 0 1
-
--- Entries 9 to 16.
-abbrev pub read_in : List ℤ → List ℕ
-read_in l = map flag_in (take 8 (drop 9 l))
-
--- Whether a slice holds some state: at least 17 entries, and neither its ticks nor one of its values is one that no state can have.
+-- Whether a slice holds some state: at least 9 entries, and none of the first nine is one that no state can have.
 unfoldable pub holds_state : List ℤ → Bool
-holds_state l = leb 17 (length l) && is_ticks (get_or l 0 (pos 0)) && all is_value (last_in l)
+holds_state l = leb 9 (length l) && is_ticks (get_or l 0 (pos 0)) && all is_value (last_in l)
 
 -- The state that it holds.
 abbrev pub state_in : List ℤ → State
-state_in l = record { ticks = nat_abs (get_or l 0 (pos 0)); last = last_in l; read = read_in l }
+state_in l = record { ticks = nat_abs (get_or l 0 (pos 0)); last = last_in l }
 
--- The slice once a state was written; entries past the state's seventeen are untouched.
+-- The slice once a state was written into it; entries past the state's nine are untouched.
 abbrev pub with_state : State → List ℤ → List ℤ
-with_state s l = pos s.ticks ∷ (s.last ++ (map pos s.read ++ drop 17 l))
-
--- The same but for the flags (for the code, which writes them last).
-abbrev pub with_front : State → List ℤ → List ℤ
-with_front s l = pos s.ticks ∷ (s.last ++ drop 9 l)
+with_state s l = pos s.ticks ∷ (s.last ++ drop 9 l)

@@ -1,9 +1,8 @@
-// The monitor's state as a host in C lends it: a slice of numbers, entry 0 the ticks, entries 1 to 8 the last values, entries 9
-// to 16 their flags. Further entries are untouched.
-ghost use Rattle.std.specs.Prelude.{◌≡◌, true, ◌≤◌, map, length, pos, nat_abs};
-ghost use Rattle.std.proofs.Math.Seq.{paste};
+// The monitor's state as a host in C lends it: a slice of numbers, entry 0 the ticks, entries 1 to 8 the last values.
+// Further entries are untouched.
+ghost use Rattle.std.specs.Prelude.{◌≡◌, true, ◌≤◌, length, pos, nat_abs};
 ghost use Rattle.pattern.specs.Slots.{all};
-ghost use Rattle.state_slice.specs.Slice.{is_ticks, is_value, flag_in, holds_state, state_in, with_front, with_state};
+ghost use Rattle.state_slice.specs.Slice.{is_ticks, is_value, holds_state, state_in, with_state};
 
 use monitor::State;
 
@@ -37,7 +36,7 @@ fn values_fit(entries: &[i64]) -> bool
 pub fn holds_state(entries: &[i64]) -> bool
     ensures { result ≡ holds_state entries.now }
 {
-    if entries.len() < 17 {
+    if entries.len() < 9 {
         return false;
     }
     let from: usize = 1;
@@ -73,26 +72,6 @@ fn values_of(entries: &[i64]) -> [i32; 8]
     values
 }
 
-fn flag_of(entry: i64) -> u8
-    ensures { result ≡ flag_in entry }
-{
-    if entry == 0 { 0 } else { 1 }
-}
-
-fn flags_of(entries: &[i64]) -> [u8; 8]
-    requires { length entries.now ≡ 8 }
-    ensures { result ≡ map flag_in entries.now }
-{
-    let mut flags: [u8; 8] = [0; 8];
-    let mut i: usize = 0;
-    while i < 8 {
-        let flag = flag_of(entries[i]);
-        flags[i] = flag;
-        i += 1;
-    }
-    flags
-}
-
 // The state that the slice holds.
 pub fn state_in(entries: &[i64]) -> State
     requires { holds_state entries.now ≡ true }
@@ -100,13 +79,10 @@ pub fn state_in(entries: &[i64]) -> State
 {
     let from: usize = 1;
     let to: usize = 9;
-    let end: usize = 17;
     let last = values_of(&entries[from..to]);
-    let read = flags_of(&entries[to..end]);
     State {
         ticks: ticks_of(entries[0]),
         last: last,
-        read: read,
     }
 }
 
@@ -122,16 +98,10 @@ fn entry_of(value: i32) -> i64
     value as i64
 }
 
-fn entry_of_flag(flag: u8) -> i64
-    ensures { result ≡ pos flag }
-{
-    flag as i64
-}
-
-// Writes the ticks and the last values into the slice.
-fn put_front(entries: &mut [i64], s: State)
+// Writes a state into the slice.
+pub fn put_state(entries: &mut [i64], s: State)
     requires { 9 ≤ length entries.old }
-    ensures { entries.new ≡ with_front s entries.old }
+    ensures { entries.new ≡ with_state s entries.old }
 {
     let last = s.last;
     entries[0] = entry_of_ticks(s.ticks);
@@ -140,26 +110,4 @@ fn put_front(entries: &mut [i64], s: State)
         entries[i + 1] = entry_of(last[i]);
         i += 1;
     }
-}
-
-// Writes the flags behind them.
-fn put_read(entries: &mut [i64], read: [u8; 8])
-    requires { 17 ≤ length entries.old }
-    ensures { entries.new ≡ paste entries.old 9 (map pos read) 8 }
-{
-    let mut i: usize = 0;
-    while i < 8 {
-        entries[i + 9] = entry_of_flag(read[i]);
-        i += 1;
-    }
-}
-
-// Writes a state into the slice.
-pub fn put_state(entries: &mut [i64], s: State)
-    requires { 17 ≤ length entries.old }
-    ensures { entries.new ≡ with_state s entries.old }
-{
-    let read = s.read;
-    put_front(entries, s);
-    put_read(entries, read);
 }

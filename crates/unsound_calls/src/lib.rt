@@ -11,24 +11,12 @@ use price::price;
 use value_vectors::values::with_header;
 use weighting::MARK;
 
-fn same_values(a: [i32; 8], b: [i32; 8]) -> bool {
-    let low = (a[0] == b[0]) & (a[1] == b[1]) & (a[2] == b[2]) & (a[3] == b[3]);
-    let high = (a[4] == b[4]) & (a[5] == b[5]) & (a[6] == b[6]) & (a[7] == b[7]);
-    low & high
-}
-
-fn same_flags(a: [u8; 8], b: [u8; 8]) -> bool {
-    let low = (a[0] == b[0]) & (a[1] == b[1]) & (a[2] == b[2]) & (a[3] == b[3]);
-    let high = (a[4] == b[4]) & (a[5] == b[5]) & (a[6] == b[6]) & (a[7] == b[7]);
-    low & high
-}
-
 fn same_state(s: State, t: State) -> bool {
-    let last = s.last;
-    let other = t.last;
-    let read = s.read;
-    let others = t.read;
-    (s.ticks == t.ticks) & same_values(last, other) & same_flags(read, others)
+    let a = s.last;
+    let b = t.last;
+    let low = (a[0] == b[0]) & (a[1] == b[1]) & (a[2] == b[2]) & (a[3] == b[3]);
+    let high = (a[4] == b[4]) & (a[5] == b[5]) & (a[6] == b[6]) & (a[7] == b[7]);
+    (s.ticks == t.ticks) & low & high
 }
 
 // A table, or scores, of two places.
@@ -48,14 +36,13 @@ fn judge_kept(kept: bool) {
     }
 }
 
-// A piece of 0 ticks, one flag for two values, and a begin outside.
+// A piece of 0 ticks, and a begin outside.
 fn price_answer(p: Pattern) -> u64 {
     let durations: [u32; 2] = [2, 0];
     let values: [i32; 2] = [10, 40];
-    let read: [u8; 1] = [1];
     let edges: [u32; 2] = [0, 1];
     let stays: [u32; 2] = [2, 1];
-    priced_answer(price(p, &durations, &values, &read, 9, &edges, &stays))
+    priced_answer(price(p, &durations, &values, 9, &edges, &stays))
 }
 
 fn opened(p: Pattern) {
@@ -64,7 +51,6 @@ fn opened(p: Pattern) {
     let used = State {
         ticks: 3,
         last: [1, 2, 3, 4, 5, 6, 7, 8],
-        read: [0, 1, 2, 3, 4, 5, 6, 7],
     };
     let after = open_through(used, p, &mut first, &mut second);
     let a = after.answer;
@@ -73,8 +59,8 @@ fn opened(p: Pattern) {
     judge_kept(same_state(s, used) & holds(&first, 5, MARK) & holds(&second, 6, 7));
 }
 
-// A state with a value in an unused channel and in one not read, and no tick left; a piece of 65,536 ticks without values and with
-// a flag; a cell past the limit; and reports of two places and of one.
+// A state with a value in an unused channel and no tick left, a piece of 65,536 ticks without values, a cell past the limit, and
+// reports of two places and of one.
 fn fed(p: Pattern) {
     let mut first: [i64; 2] = [32760000001, MARK];
     let mut second: [i64; 2] = [6, 7];
@@ -83,10 +69,8 @@ fn fed(p: Pattern) {
     let full = State {
         ticks: 2147483647,
         last: [10, 0, 0, 0, 0, 0, 0, 1],
-        read: [0, 1, 255, 1, 0, 1, 1, 7],
     };
     let values: [i32; 0] = [];
-    let read: [u8; 1] = [0];
     let after = feed_through(
         full,
         p,
@@ -94,7 +78,6 @@ fn fed(p: Pattern) {
         &mut second,
         65536,
         &values,
-        &read,
         &mut scores,
         &mut lengths,
     );
@@ -115,8 +98,7 @@ fn best_told(p: Pattern) {
     let mut second: [i64; 2] = [6, 7];
     let durations: [u32; 1] = [0];
     let values: [i32; 1] = [10];
-    let read: [u8; 1] = [0];
-    let f = best(p, &durations, &values, &read, &mut first, &mut second);
+    let f = best(p, &durations, &values, &mut first, &mut second);
     judge(b"  best", found_answer(f), 7);
     judge_kept(holds(&first, 5, MARK) & holds(&second, 6, 7));
 }

@@ -17,35 +17,34 @@ pub struct Fed {
     pub length: usize,
 }
 
-// Up to 64 ticks with the same sample.
+// Up to 64 ticks with the same values.
 pub fn feed_rows(
     p: Pattern,
     ticks: u32,
     values: &[i32],
-    read: &[u8],
     s: Search,
     first: &mut [i64],
     second: &mut [i64],
     out: &mut [u8],
 ) -> Fed
     requires { (ticks ≤ 64) × (s.state.ticks + ticks ≤ 2147483647)
-        × ((i : ℕ) → i < ticks → get_or (feed_lengths p s.state first.old second.old (chunk_of ticks values.now read.now)) i 0
+        × ((i : ℕ) → i < ticks → get_or (feed_lengths p s.state first.old second.old (chunk_of ticks values.now)) i 0
         ≤ s.state.ticks + i + 1) }
     ensures state_value { result.search.state
-        ≡ feed_state p s.state first.old second.old (chunk_of ticks values.now read.now) }
+        ≡ feed_state p s.state first.old second.old (chunk_of ticks values.now) }
     ensures choice_value { chosen_in result.search.choice ≡ chosen_past p (chosen_in s.choice) s.state.ticks
-        (feed_scores p s.state first.old second.old (chunk_of ticks values.now read.now))
-        (feed_lengths p s.state first.old second.old (chunk_of ticks values.now read.now)) ticks }
+        (feed_scores p s.state first.old second.old (chunk_of ticks values.now))
+        (feed_lengths p s.state first.old second.old (chunk_of ticks values.now)) ticks }
     ensures first_after { first.new
-        ≡ feed_first p s.state first.old second.old (chunk_of ticks values.now read.now) }
+        ≡ feed_first p s.state first.old second.old (chunk_of ticks values.now) }
     ensures second_after { second.new
-        ≡ feed_second p s.state first.old second.old (chunk_of ticks values.now read.now) }
+        ≡ feed_second p s.state first.old second.old (chunk_of ticks values.now) }
     ensures put { Put out.old out.new 0 result.length (rows_past s.state.ticks
-        (feed_scores p s.state first.old second.old (chunk_of ticks values.now read.now))
-        (feed_lengths p s.state first.old second.old (chunk_of ticks values.now read.now)) ticks) }
+        (feed_scores p s.state first.old second.old (chunk_of ticks values.now))
+        (feed_lengths p s.state first.old second.old (chunk_of ticks values.now)) ticks) }
     ensures ticks_len_bound { length (rows_past s.state.ticks
-        (feed_scores p s.state first.old second.old (chunk_of ticks values.now read.now))
-        (feed_lengths p s.state first.old second.old (chunk_of ticks values.now read.now)) ticks)
+        (feed_scores p s.state first.old second.old (chunk_of ticks values.now))
+        (feed_lengths p s.state first.old second.old (chunk_of ticks values.now)) ticks)
         ≤ 64 * ticks }
 {
     let mut scores: [i64; 64] = [0; 64];
@@ -59,7 +58,6 @@ pub fn feed_rows(
         second,
         ticks,
         values,
-        read,
         &mut scores,
         &mut lengths,
     );

@@ -5,7 +5,7 @@ use mathlib.Core.Path.{◌≡◌, refl, sym, ap, subst, ◌∙◌}
 use mathlib.Core.Logic.{inl}
 use mathlib.Core.List.{List, [], ◌++◌}
 use mathlib.Core.Option.{Option, none, some, none-ne-some}
-use mathlib.Core.Bool.{Bool, true, false, cond, ◌||◌}
+use mathlib.Core.Bool.{Bool, true, false, not, cond, ◌||◌}
 use lib.Dec.{ltb}
 use lib.ListN.{length, take}
 use lib.IntN.{ℤ}
@@ -20,10 +20,9 @@ use Rattle.pattern_text.specs.Text.{Answer, accepted, refused}
 use Rattle.pattern_read.specs.declared.Outcome.TheVariants as outcome
 use Rattle.pattern_read.specs.declared.Outcome.TheVariants.{Accepted}
 use Rattle.pattern_read.specs.Reading.{reading_of}
-use Rattle.record.specs.Reading.{readings}
 use Rattle.record.specs.Record.{Book, book_of, total}
 use Rattle.record_text.specs.Piece.{RawPiece}
-use Rattle.record_text.specs.Text.{record_form, render_record, read_record, durations_of, pieces_refusal, record_refusal}
+use Rattle.record_text.specs.Text.{record_form, render_record, read_record, durations_of, values_of, pieces_refusal, record_refusal}
 use Rattle.record_read.specs.declared.Checked.TheVariants as checked
 use Rattle.record_read.specs.declared.Checked.TheVariants.{Sound}
 use Rattle.record_read.specs.Check.{checked_of}
@@ -38,7 +37,7 @@ use Rattle.watch_steps.specs.declared.Watch.{Watch}
 use Rattle.watch_steps.specs.declared.Stage.TheVariants.{Refused}
 use Rattle.watch_steps.specs.Watch.{book_of_text, tables_refusal, unless_cause, refusal_for, answered_with}
 use Rattle.watch_steps.specs.Steps.{rows_due, due_at, due_for, Underway, StandingAt, Standing, stage_by, start_watch, start_first, start_second, opened_watch}
-use Rattle.watch_steps.proofs.Pieces.{lent_values, lent_flags, book-is, record_sound_lem}
+use Rattle.watch_steps.proofs.Pieces.{book-is, record_sound_lem}
 
 -- a text that is not refused is that of some pieces
 no_form : (a : Bool) → cond a (some TextTooLong) (some BrokenForm) ≡ none → ⊥
@@ -122,13 +121,13 @@ module _ (p : Pattern) (sound : sound_of p ≡ true) (first second : List ℤ) (
       reads : read_record t ≡ some rs
       reads = (pieces p.channels t fits).1
 
-      none_given : best_refusal p (durations_of rs) (lent_values rs) (lent_flags rs) (length first) (length second) ≡ none
+      none_given : best_refusal p (durations_of rs) (values_of rs) (length first) (length second) ≡ none
       unfolding best_refusal open_refusal
       none_given = rw (record_sound_lem p.channels t rs reads fits) e
 
-      opens : Fit p (durations_of rs) (lent_values rs) (lent_flags rs) 0 W.search (open_first p first second)
+      opens : Fit p (durations_of rs) (values_of rs) 0 W.search (open_first p first second)
       unfolding chosen_by
-      opens = fit p (durations_of rs) (lent_values rs) (lent_flags rs) first second none_given no_ticks W.search refl refl
+      opens = fit p (durations_of rs) (values_of rs) first second none_given no_ticks W.search refl refl
 
       zero-ticks : W.search.state.ticks ≡ 0
       zero-ticks = ap (λ (o : Option Refusal). (unless_refused o no_ticks no_ticks).ticks) e
@@ -141,7 +140,7 @@ module _ (p : Pattern) (sound : sound_of p ≡ true) (first second : List ℤ) (
       unfolding total
       from_zero = sym zero-ticks
 
-      book : B ≡ book_of p.channels (durations_of rs) (readings (lent_values rs) (lent_flags rs))
+      book : B ≡ book_of p.channels (durations_of rs) (values_of rs)
       book = book-is p.channels t rs reads
 
       under : Underway p t W.cursor W.search (open_first p first second) (open_second p first second)
@@ -151,13 +150,13 @@ module _ (p : Pattern) (sound : sound_of p ≡ true) (first second : List ℤ) (
             fits = fits;
             position =
                 record { read = []; further = rs; reads = reads; at = sym nothing_read; ticks = let a = zero-ticks in let b = no_total in omega arith; now = inl refl };
-            searched = subst (λ (w : Book). SearchedTo p w W.search.state.ticks W.search) (sym book) (subst (λ (m : ℕ). SearchedTo p (book_of p.channels (durations_of rs) (readings (lent_values rs) (lent_flags rs))) m W.search) from_zero opens.searched);
+            searched = subst (λ (w : Book). SearchedTo p w W.search.state.ticks W.search) (sym book) (subst (λ (m : ℕ). SearchedTo p (book_of p.channels (durations_of rs) (values_of rs)) m W.search) from_zero opens.searched);
             first_long = opens.first_long;
-            second_long = (second_open p (durations_of rs) (lent_values rs) (lent_flags rs) first second none_given).0;
+            second_long = (second_open p (durations_of rs) (values_of rs) first second none_given).0;
             first_holds =
                 subst (λ (w : Book). open_first p first second ≡ written p (table_to p w W.search.state.ticks) (open_first p first second)) (sym book)
-                (subst (λ (m : ℕ). open_first p first second ≡ written p (table_to p (book_of p.channels (durations_of rs) (readings (lent_values rs) (lent_flags rs))) m) (open_first p first second)) from_zero opens.first);
-            second_holds = (second_open p (durations_of rs) (lent_values rs) (lent_flags rs) first second none_given).1;
+                (subst (λ (m : ℕ). open_first p first second ≡ written p (table_to p (book_of p.channels (durations_of rs) (values_of rs)) m) (open_first p first second)) from_zero opens.first);
+            second_holds = (second_open p (durations_of rs) (values_of rs) first second none_given).1;
           }
 
     opened_standing : Standing t W (open_first p first second) (open_second p first second)

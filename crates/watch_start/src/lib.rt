@@ -20,7 +20,6 @@ fn no_ticks() -> State
     State {
         ticks: 0,
         last: [0, 0, 0, 0, 0, 0, 0, 0],
-        read: [1, 1, 1, 1, 1, 1, 1, 1],
     }
 }
 
@@ -32,7 +31,6 @@ fn start_at(stage: Stage, p: Pattern, state: State) -> Watch
         at: 0,
         left: 0,
         values: [0, 0, 0, 0, 0, 0, 0, 0],
-        read: [1, 1, 1, 1, 1, 1, 1, 1],
     };
     let choice = Choice {
         end: 0,

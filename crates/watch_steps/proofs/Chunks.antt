@@ -1,22 +1,22 @@
 -- A chunk of the present piece: what is fed, what is put, and where the program stands then.
-use Prim.Native.Nat.{ℕ, ◌+◌, ◌-◌, ◌*◌, ◌≤◌, ◌<◌}
+use Prim.Native.Nat.{ℕ, ◌+◌, ◌-◌, ◌≤◌, ◌<◌}
 use native.Mathlib.Omega.{arith}
 use mathlib.Core.Path.{◌≡◌, sym, ap, subst, ◌∙◌}
-use mathlib.Core.Logic.{inr, ⊎_elim}
+use mathlib.Core.Logic.{◌⊎◌, inr, ⊎_elim}
 use mathlib.Core.List.{List, [], ◌∷◌, ◌++◌, append_assoc, map-append, map}
-use mathlib.Core.Bool.{true}
-use lib.ListN.{length, take, drop, get_or, length-map}
+use mathlib.Core.Option.{some}
+use mathlib.Core.Bool.{true, cond}
+use lib.ListN.{length, take, get_or}
 use lib.IntN.{ℤ, pos}
 use Rattle.pattern.specs.declared.Pattern.{Pattern}
+use Rattle.pattern.proofs.SoundLaws as pattern
 use Rattle.pattern_text.specs.Bytes.{Bytes}
 use Rattle.pattern_text.specs.Text.{pad}
 use Rattle.pattern_text.proofs.Slots.{take-pad}
-use Rattle.record.specs.Reading.{Sample, value_of, values_of, readings, flag_of, flags_of}
-use Rattle.record.specs.Record.{Book, book_of, sample_at, total, lent_sound}
-use Rattle.record.proofs.RecordLaws.{parts, total-append, lent-parts}
-use Rattle.record.proofs.ReadingLaws.{readings_own}
-use Rattle.record_text.specs.Piece.{RawPiece, readings_in}
-use Rattle.record_text.specs.Text.{durations_of, readings_of}
+use Rattle.record.specs.Record.{Book, book_of, sample_at, total, record_sound}
+use Rattle.record.proofs.RecordLaws.{parts, total-append}
+use Rattle.record_text.specs.Piece.{RawPiece, values_in}
+use Rattle.record_text.specs.Text.{durations_of, values_of}
 use Rattle.monitor.specs.declared.State.{State}
 use Rattle.monitor.specs.Cells.{written}
 use Rattle.monitor.specs.Open.{marks}
@@ -33,7 +33,7 @@ use Rattle.watch_text.proofs.Rows.{rows_split, past_are}
 use Rattle.watch_steps.specs.declared.Cursor.{Cursor}
 use Rattle.watch_steps.specs.Watch.{book_of_text}
 use Rattle.watch_steps.specs.Steps.{rows_due, Inside, Underway}
-use Rattle.watch_steps.proofs.Pieces.{lent_values, lent_flags, book-is, record_sound_lem, inside, duration-is, sample-is, values_are, flags_are, start_is, ticks-more}
+use Rattle.watch_steps.proofs.Pieces.{book-is, record_sound_lem, inside, duration-is, sample-is, start_is, ticks-more}
 
 module _ (p : Pattern) (t : Bytes) (k : Cursor) (s : Search) (first second : List ℤ) (u : Underway p t k s first second) where
   abbrev rs : List RawPiece
@@ -45,27 +45,20 @@ module _ (p : Pattern) (t : Bytes) (k : Cursor) (s : Search) (first second : Lis
   abbrev pub B : Book
   B = book_of_text p.channels t
 
-  -- the record as it would be lent
-  abbrev ds : List ℕ
-  ds = durations_of rs
+  few-channels : p.channels ≤ 8
+  few-channels = (pattern.parts p u.sound).few_channels
 
-  abbrev vs : List ℤ
-  vs = lent_values rs
-
-  abbrev fs : List ℕ
-  fs = lent_flags rs
-
-  book : B ≡ book_of p.channels ds (readings vs fs)
+  book : B ≡ book_of p.channels (durations_of rs) (values_of rs)
   book = book-is p.channels t rs u.position.reads
 
-  rules : lent_sound p.channels ds vs fs ≡ true
+  rules : record_sound p.channels (durations_of rs) (values_of rs) ≡ true
   rules = record_sound_lem p.channels t rs u.position.reads u.fits
 
-  pub long : length B ≡ total ds
-  long = ap length book ∙ book-long p p.channels ds (readings vs fs)
+  pub long : length B ≡ total (durations_of rs)
+  long = ap length book ∙ book-long p p.channels (durations_of rs) (values_of rs)
 
   pub short : length B ≤ 2147483647
-  short = let k = (parts p.channels ds vs (lent-parts p.channels ds vs fs rules).0).short in let l = long in omega arith
+  short = let k = (parts p.channels (durations_of rs) (values_of rs) rules).short in let l = long in omega arith
 
   -- the ticks of the pieces read lie in the book
   pub ticks-read : total (durations_of rs) ≡ total (durations_of u.position.read) + total (durations_of u.position.further)
@@ -95,16 +88,16 @@ module _ (p : Pattern) (t : Bytes) (k : Cursor) (s : Search) (first second : Lis
     is : rs ≡ earlier ++ (r ∷ u.position.further)
     is = ap (λ (q : List RawPiece). q ++ u.position.further) now.is ∙ append_assoc earlier (r ∷ []) u.position.further
 
-    ds-at : get_or ds i 0 ≡ r.duration
-    ds-at = duration-is p.channels t rs u.position.reads u.fits earlier r u.position.further is
+    ds_at : get_or (durations_of rs) i 0 ≡ r.duration
+    ds_at = duration-is p.channels t rs u.position.reads u.fits earlier r u.position.further is
 
-    sample-at : sample_at p.channels (readings_of rs) i ≡ readings_in r
-    sample-at = sample-is p.channels t rs u.position.reads u.fits earlier r u.position.further is
+    vs-at : sample_at p.channels (values_of rs) i ≡ values_in r
+    vs-at = sample-is p.channels t rs u.position.reads u.fits earlier r u.position.further is
 
-    within : i < length ds
+    within : i < length (durations_of rs)
     within = inside p.channels t rs u.position.reads u.fits earlier r u.position.further is
 
-    at-is : n ≡ total (take i ds) + (r.duration - k.left)
+    at-is : n ≡ total (take i (durations_of rs)) + (r.duration - k.left)
     at-is =
         let a = u.position.ticks in
         let b = ap (λ (q : List RawPiece). total (durations_of q)) now.is ∙ ticks-more earlier r in
@@ -113,32 +106,17 @@ module _ (p : Pattern) (t : Bytes) (k : Cursor) (s : Search) (first second : Lis
         omega arith
 
     module _ (d : ℕ) (some-ticks : 1 ≤ d) (low : d ≤ k.left) (few : d ≤ 64) where
-      open_ticks : (r.duration - k.left) + d ≤ get_or ds i 0
-      open_ticks = let a = ds-at in let b = now.low in omega arith
+      open_ticks : (r.duration - k.left) + d ≤ get_or (durations_of rs) i 0
+      open_ticks = let a = ds_at in let b = now.low in omega arith
 
-      count : length (readings_in r) ≡ p.channels
-      count =
-          let f = sample-fine p u.sound ds vs fs rules i (r.duration - k.left) d within open_ticks some-ticks few in
-          ap (λ (x : Sample). length x) (sym sample-at) ∙ ap (λ (x : Sample). length (sample_at p.channels x i)) (sym (readings_own (readings_of rs))) ∙ f.0
-
-      in_use : {A : Type 0} (a : A) (xs : List A) → length xs ≡ p.channels → take p.channels (pad 8 a xs) ≡ xs
-      in_use a xs l = ap (λ (m : ℕ). take m (pad 8 a xs)) (sym l) ∙ take-pad 8 a xs
-
-      -- the cursor's values and flags are the piece's
-      values : take p.channels k.values ≡ take p.channels (drop (i * p.channels) vs)
+      values : take p.channels k.values ≡ sample_at p.channels (values_of rs) i
       values =
-          ap (take p.channels) now.values
-          ∙ in_use (pos 0) (values_of (readings_in r)) (length-map (readings_in r) value_of ∙ count)
-          ∙ sym (values_are p.channels t rs u.position.reads u.fits earlier r u.position.further is)
-
-      flags : take p.channels k.read ≡ take p.channels (drop (i * p.channels) fs)
-      flags =
-          ap (take p.channels) now.read
-          ∙ in_use 1 (flags_of (readings_in r)) (length-map (readings_in r) flag_of ∙ count)
-          ∙ sym (flags_are p.channels t rs u.position.reads u.fits earlier r u.position.further is)
+          let f = sample-fine p u.sound (durations_of rs) (values_of rs) rules i (r.duration - k.left) d within open_ticks some-ticks few in
+          let l : length (values_in r) ≡ p.channels = ap length (sym vs-at) ∙ f.0 in
+          ap (take p.channels) now.values ∙ ap (λ (m : ℕ). take m (pad 8 (pos 0) (values_in r))) (sym l) ∙ take-pad 8 (pos 0) (values_in r) ∙ sym vs-at
 
       abbrev c : Call
-      c = chunk_of d (take p.channels k.values) (take p.channels k.read)
+      c = chunk_of d (take p.channels k.values)
 
       abbrev Q : Book → Call → ℕ → Type 0
       Q w e m =
@@ -148,10 +126,9 @@ module _ (p : Pattern) (t : Bytes) (k : Cursor) (s : Search) (first second : Lis
       turned : Turned p B s.state (chosen_in s.choice) first second c n
       turned =
           subst (λ (w : Book). Q w c n) (sym book)
-          (subst (λ (m : ℕ). Q (book_of p.channels ds (readings vs fs)) c m) (sym at-is)
-          (subst (λ (e : List ℤ). Q (book_of p.channels ds (readings vs fs)) (chunk_of d e (take p.channels k.read)) (total (take i ds) + (r.duration - k.left))) (sym values)
-          (subst (λ (e : List ℕ). Q (book_of p.channels ds (readings vs fs)) (chunk_of d (take p.channels (drop (i * p.channels) vs)) e) (total (take i ds) + (r.duration - k.left))) (sym flags)
-          (fed p u.sound ds vs fs rules i (r.duration - k.left) d within open_ticks some-ticks few s.state (chosen_in s.choice) first second u.first_long u.second_long))))
+          (subst (λ (m : ℕ). Q (book_of p.channels (durations_of rs) (values_of rs)) c m) (sym at-is)
+          (subst (λ (e : List ℤ). Q (book_of p.channels (durations_of rs) (values_of rs)) (chunk_of d e) (total (take i (durations_of rs)) + (r.duration - k.left))) (sym values)
+          (fed p u.sound (durations_of rs) (values_of rs) rules i (r.duration - k.left) d within open_ticks some-ticks few s.state (chosen_in s.choice) first second u.first_long u.second_long)))
           u.searched.0 u.searched.1 u.first_holds
 
       pub room-on : n + d ≤ 2147483647
@@ -179,7 +156,7 @@ module _ (p : Pattern) (t : Bytes) (k : Cursor) (s : Search) (first second : Lis
           (choice : chosen_in s'.choice ≡ chosen_past p (chosen_in s.choice) n (feed_scores p s.state first second c) (feed_lengths p s.state first second c) d)
           (is-first : first' ≡ feed_first p s.state first second c) (is-second : second' ≡ feed_second p s.state first second c) where
         abbrev k' : Cursor
-        k' = record { at = k.at; left = k.left - d; values = k.values; read = k.read }
+        k' = record { at = k.at; left = k.left - d; values = k.values }
 
         state-is : s'.state ≡ state_to p B (n + d)
         state-is = state ∙ turned.state
@@ -208,7 +185,7 @@ module _ (p : Pattern) (t : Bytes) (k : Cursor) (s : Search) (first second : Lis
                     reads = u.position.reads;
                     at = u.position.at;
                     ticks = let e = ticks-on in let a = u.position.ticks in omega arith;
-                    now = inr (record { earlier = earlier; present = r; is = now.is; low = let a = now.low in omega arith; values = now.values; read = now.read });
+                    now = inr (record { earlier = earlier; present = r; is = now.is; low = let a = now.low in omega arith; values = now.values });
                   };
               searched = (state-is ∙ ap (state_to p B) (sym ticks-on), choice ∙ turned.choice ∙ ap (chosen_to p B) (sym ticks-on));
               first_long = let e = ap length first_is ∙ written-length p u.sound (table_to p B (n + d)) first u.first_long in let l = u.first_long in omega arith;

@@ -1,25 +1,24 @@
 -- The next piece is read, or there is none and all ticks were fed.
-use Prim.Native.Nat.{ℕ, zero, suc, ◌-◌, ◌≤◌, ◌<◌}
+use Prim.Native.Nat.{ℕ, zero, suc, ◌+◌, ◌-◌, ◌≤◌, ◌<◌}
 use native.Mathlib.Omega.{arith}
 use mathlib.Core.Path.{◌≡◌, refl, sym, ap, subst, ◌∙◌}
 use mathlib.Core.Logic.{◌⊎◌, inl, inr}
 use mathlib.Core.List.{List, [], ◌∷◌, ◌++◌, append_assoc}
-use mathlib.Core.Option.{some}
+use mathlib.Core.Option.{none, some}
 use mathlib.Core.Bool.{Bool, true, false, cond, ◌&&◌}
 use borrow.Author.Tests.{eqb-true, eqb-false, ltb-true, ltb-false}
 use lib.Dec.{eqb, ltb}
-use lib.ListN.{length}
+use lib.ListN.{length, get_or}
 use lib.IntN.{ℤ, pos}
 use Rattle.pattern.specs.declared.Pattern.{Pattern}
 use Rattle.pattern.proofs.SoundLaws as pattern
 use Rattle.pattern_text.specs.Bytes.{Bytes}
 use Rattle.pattern_text.specs.Text.{pad}
-use Rattle.record.specs.Reading.{values_of, flags_of}
 use Rattle.record.specs.Record.{total}
-use Rattle.record.proofs.RecordLaws.{parts, lasts-at, lent-parts}
+use Rattle.record.proofs.RecordLaws.{parts, lasts-at}
 use Rattle.record.proofs.ListLaws.{get_d_any}
-use Rattle.record_text.specs.Piece.{RawPiece, readings_in}
-use Rattle.record_text.specs.Text.{render_record, read_record, durations_of}
+use Rattle.record_text.specs.Piece.{RawPiece, values_in}
+use Rattle.record_text.specs.Text.{render_record, read_record, durations_of, values_of}
 use Rattle.record_read.specs.Line.{piece_at}
 use Rattle.record_read.proofs.Theorems.{pieces_read, pieces_left}
 use Rattle.best.specs.declared.Search.{Search}
@@ -28,7 +27,7 @@ use Rattle.best.specs.Search.{chosen_in}
 use Rattle.watch_text.specs.Shown.{rows_from, best_text}
 use Rattle.watch_steps.specs.declared.Cursor.{Cursor}
 use Rattle.watch_steps.specs.Steps.{rows_due, Position, cursor_at, moved_on, Underway}
-use Rattle.watch_steps.proofs.Pieces.{lent_values, lent_flags, record_sound_lem, inside, duration-is, ticks-more}
+use Rattle.watch_steps.proofs.Pieces.{record_sound_lem, inside, duration-is, ticks-more}
 use Rattle.watch_steps.proofs.Chunks.{B, long, ticks-read}
 
 module _ (p : Pattern) (t : Bytes) (k : Cursor) (s : Search) (first second : List ℤ) (u : Underway p t k s first second) where
@@ -54,13 +53,13 @@ module _ (p : Pattern) (t : Bytes) (k : Cursor) (s : Search) (first second : Lis
       let reads : read_record t ≡ some (read ++ (r ∷ later)) = u.position.reads ∙ ap (λ (q : List RawPiece). some (read ++ q)) is in
       let c = p.channels in
       let piece = pieces_read c t read r later (pattern.parts p u.sound).few_channels reads u.fits in
-      let here : cursor_at (piece_at t k.at) ≡ record { at = length (render_record (read ++ (r ∷ []))); left = r.duration; values = pad 8 (pos 0) (values_of (readings_in r)); read = pad 8 1 (flags_of (readings_in r)) } =
+      let here : cursor_at (piece_at t k.at) ≡ record { at = length (render_record (read ++ (r ∷ []))); left = r.duration; values = pad 8 (pos 0) (values_in r) } =
       ap (λ (m : ℕ). cursor_at (piece_at t m)) u.position.at ∙ ap cursor_at piece in
       let rs = read ++ (r ∷ later) in
       let rules = record_sound_lem c t rs reads u.fits in
       let in-it = inside c t rs reads u.fits read r later refl in
       let lasts : 0 < r.duration =
-      let a = lasts-at (durations_of rs) (length read) (parts c (durations_of rs) (lent_values rs) (lent-parts c (durations_of rs) (lent_values rs) (lent_flags rs) rules).0).lasting in
+      let a = lasts-at (durations_of rs) (length read) (parts c (durations_of rs) (values_of rs) rules).lasting in
       let b = get_d_any (durations_of rs) (length read) 0 1 in-it in
       let d = duration-is c t rs reads u.fits read r later refl in
       omega arith in
@@ -73,7 +72,7 @@ module _ (p : Pattern) (t : Bytes) (k : Cursor) (s : Search) (first second : Lis
               reads = reads ∙ ap some (sym (append_assoc read (r ∷ []) later));
               at = refl;
               ticks = let a = u.position.ticks in let b = ticks-more read r in omega arith;
-              now = inr (record { earlier = read; present = r; is = refl; low = omega arith; values = refl; read = refl });
+              now = inr (record { earlier = read; present = r; is = refl; low = omega arith; values = refl });
             };
         ends = λ z. absurd (omega arith);
       })

@@ -12,7 +12,6 @@ use lib.Seq.{take_all}
 use lib.IntN.{ℤ}
 use Rattle.pattern.specs.declared.Pattern.{Pattern}
 use Rattle.pattern_text.specs.Bytes.{Bytes}
-use Rattle.record.specs.Record.{Book}
 use Rattle.text_put.specs.Put.{Put}
 use Rattle.text_put.proofs.PutLaws.{put-long, put-inside, put-text, put_rest}
 use Rattle.monitor.specs.Feed.{feed_lengths}
@@ -63,7 +62,7 @@ module _ (p : Pattern) (t : Bytes) (k : Cursor) (s : Search) (first second : Lis
   abbrev n : ℕ
   n = s.state.ticks
 
-  abbrev B : Book
+  abbrev B : List (List ℤ)
   B = book_of_text p.channels t
 
   abbrev d : ℕ

@@ -8,9 +8,8 @@ use Rattle.pattern.specs.Cells.{cells_needed}
 use Rattle.pattern_text.specs.Bytes.{Bytes}
 use Rattle.pattern_text.specs.Text.{Answer, pad}
 use Rattle.pattern_read.specs.Reading.{reading_of}
-use Rattle.record.specs.Reading.{values_of, flags_of}
 use Rattle.record.specs.Record.{Book, total}
-use Rattle.record_text.specs.Piece.{RawPiece, readings_in}
+use Rattle.record_text.specs.Piece.{RawPiece, values_in}
 use Rattle.record_text.specs.Text.{render_record, read_record, durations_of, record_refusal}
 use Rattle.record_read.specs.declared.PieceRead.{PieceRead}
 use Rattle.record_read.specs.Line.{piece_at}
@@ -55,13 +54,12 @@ due_for t w = due_at w.stage w.pattern (book_of_text w.pattern.channels t) w.sea
 -- ---- where the program stands in the record's text
 
 -- Some ticks are left of the last of the pieces read.
-pub record Inside (pieces : List RawPiece) (k : Cursor) : Type 0 where
+pub record Inside (read : List RawPiece) (k : Cursor) : Type 0 where
   pub earlier : List RawPiece
   pub present : RawPiece
-  pub is : pieces ≡ earlier ++ (present ∷ [])
+  pub is : read ≡ earlier ++ (present ∷ [])
   pub low : k.left ≤ present.duration
-  pub values : k.values ≡ pad 8 (pos 0) (values_of (readings_in present))
-  pub read : k.read ≡ pad 8 1 (flags_of (readings_in present))
+  pub values : k.values ≡ pad 8 (pos 0) (values_in present)
 
 -- After n ticks: some pieces were read, and all their ticks but those left were fed.
 pub record Position (t : Bytes) (n : ℕ) (k : Cursor) : Type 0 where
@@ -74,7 +72,7 @@ pub record Position (t : Bytes) (n : ℕ) (k : Cursor) : Type 0 where
 
 -- The next piece is read once nothing is left of the one before it.
 abbrev pub cursor_at : PieceRead → Cursor
-cursor_at r = record { at = r.next; left = r.duration; values = r.values; read = r.read }
+cursor_at r = record { at = r.next; left = r.duration; values = r.values }
 
 unfoldable pub moved_on : Bytes → Cursor → Cursor
 moved_on t k = cond (eqb k.left 0 && ltb k.at (length t)) (cursor_at (piece_at t k.at)) k
@@ -119,7 +117,7 @@ watch_at stage p k s = record { stage = stage; pattern = p; cursor = k; search =
 
 -- A chunk of the present piece: up to 64 of the ticks that are left.
 abbrev pub chunk : Pattern → Cursor → Call
-chunk p k = chunk_of (min k.left 64) (take p.channels k.values) (take p.channels k.read)
+chunk p k = chunk_of (min k.left 64) (take p.channels k.values)
 
 -- The chunk that a step feeds: at the rows, as long as ticks are left; at a refusal, the heading and the last line none.
 abbrev pub chunk_at : Stage → Pattern → Cursor → Option Call
@@ -154,7 +152,7 @@ pub record Stepped (t : Bytes) (w : Watch) (first second : List ℤ) (out : Byte
 -- What a step through a chunk does, in the words of feeding.
 pub record ChunkStepped (p : Pattern) (k : Cursor) (s : Search) (t u : List ℤ) (o : Bytes) (t' u' : List ℤ) (o' : Bytes) (r : Step) : Type 0 where
   pub watch : r.watch
-      ≡ watch_at Rows p (record { at = k.at; left = k.left - min k.left 64; values = k.values; read = k.read }) r.watch.search
+      ≡ watch_at Rows p (record { at = k.at; left = k.left - min k.left 64; values = k.values }) r.watch.search
   pub state : r.watch.search.state ≡ feed_state p s.state t u (chunk p k)
   pub choice : chosen_in r.watch.search.choice
       ≡ chosen_past p (chosen_in s.choice) s.state.ticks (feed_scores p s.state t u (chunk p k)) (feed_lengths p s.state t u (chunk p k)) (min k.left 64)
@@ -171,10 +169,10 @@ pub record LineStepped (stage : Stage) (p : Pattern) (k : Cursor) (s : Search) (
 
 -- ---- the start
 
--- Nothing read, nothing chosen. The cursor holds zeros that count as read, as the monitor's state does.
+-- Nothing read, nothing chosen.
 abbrev pub start_at : Stage → Pattern → State → Watch
 start_at stage p q =
-    watch_at stage p (record { at = 0; left = 0; values = replicate 8 (pos 0); read = replicate 8 1 })
+    watch_at stage p (record { at = 0; left = 0; values = replicate 8 (pos 0) })
     (record { state = q; choice = record { end = 0; length = 0; score = pos 0 } })
 
 abbrev pub stage_by : Option Refusal → Stage

@@ -1,4 +1,4 @@
--- What `watch` prints, by the texts of pattern.txt and of record.txt (document 01, 'The watch program'; document 02, R-7).
+-- What `watch` prints, by the texts of pattern.txt and of record.txt (document 01, 'The watch program').
 use Rattle.std.specs.Prelude.{ℕ, List, [], cond, ltb}
 use Rattle.std.proofs.Math.Option.{Option, none, some}
 use Rattle.pattern.specs.declared.Pattern.{Pattern}
@@ -9,13 +9,13 @@ use Rattle.pattern_text.specs.Bytes.{Bytes}
 use Rattle.pattern_text.specs.Text.{Answer, accepted, refused, read_of}
 use Rattle.record.specs.Record.{Book, book_of}
 use Rattle.record_text.specs.Piece.{RawPiece}
-use Rattle.record_text.specs.Text.{read_record, durations_of, readings_of, record_refusal}
+use Rattle.record_text.specs.Text.{read_record, durations_of, values_of, record_refusal}
 use Rattle.watch_text.specs.Shown.{refused_text, shown_for}
 
 -- The book of a record's text.
 abbrev pub book_in : (channels : ℕ) → Option (List RawPiece) → Book
 book_in n none = []
-book_in n (some rs) = book_of n (durations_of rs) (readings_of rs)
+book_in n (some rs) = book_of n (durations_of rs) (values_of rs)
 
 abbrev pub book_of_text : (channels : ℕ) → Bytes → Book
 book_of_text n t = book_in n (read_record t)

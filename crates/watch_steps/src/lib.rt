@@ -32,14 +32,12 @@ pub enum Stage {
     Done,
 }
 
-// Where the next piece begins in the record's text; the ticks left of the present one, its values, and a flag for each, 0 where
-// the reading was lost (document 02, R-7).
+// Where the next piece begins in the record's text; the ticks left of the present one, and its values.
 #[derive(Drop)]
 pub struct Cursor {
     pub at: usize,
     pub left: u32,
     pub values: [i32; 8],
-    pub read: [u8; 8],
 }
 
 #[derive(Drop)]
@@ -66,12 +64,10 @@ fn move_on(text: &[u8], k: Cursor) -> Cursor
         if at < text.len() {
             let r = piece_at(text, at);
             let values = r.values;
-            let read = r.read;
             return Cursor {
                 at: r.next,
                 left: r.duration,
                 values: values,
-                read: read,
             };
         }
     }
@@ -96,14 +92,12 @@ fn step_chunk(
     let ticks = least(k.left, 64);
     let n = p.channels as usize;
     let values = k.values;
-    let read = k.read;
-    let fed = feed_rows(p, ticks, &values[..n], &read[..n], s, first, second, out);
+    let fed = feed_rows(p, ticks, &values[..n], s, first, second, out);
     let search = fed.search;
     let cursor = Cursor {
         at: k.at,
         left: k.left - ticks,
         values: values,
-        read: read,
     };
     let watch = Watch {
         stage: Stage::Rows,

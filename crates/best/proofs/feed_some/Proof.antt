@@ -6,7 +6,7 @@ use Rattle.best.proofs.feed_some.Statement.{statement}
 use Rattle.best.proofs.feed_some.Tie as tie
 
 layout-of-requires : tie.Need-layout-of-requires
-layout-of-requires c κs = (fed _ _ _ _ _ _ _ _ _ c.before.before.before.before.requires.2).sound
+layout-of-requires c κs = (fed _ _ _ _ _ _ _ _ c.before.before.before.requires.2).sound
 
 slice-aggregate-feed-piece : tie.Need-slice-aggregate-feed-piece
 slice-aggregate-feed-piece c = search rules
@@ -34,7 +34,7 @@ same-length-2 c = search rules
 
 returns : tie.Need-returns
 returns c =
-    let none_given = c.before.before.before.before.before.before.before.before.before.before.before.before.before.before.before.before.before.before.requires.2 in
+    let none_given = c.before.before.before.before.before.before.before.before.before.before.before.before.before.before.before.before.before.requires.2 in
     let o = c.before.before.before.before.before.before.before.before.feed-piece.ensures in
     (rw none_given o.0, (c.choose-all.ensures ∙ rw (o.1.1.0, o.1.1.1.0, none_given), (rw none_given o.1.0, o.1.1.1.1)))
 

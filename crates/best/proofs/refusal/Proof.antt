@@ -1,6 +1,6 @@
 -- 7, 8, and then what an opening is refused for.
 use mathlib.Core.Path.{◌≡◌, sym, ◌∙◌}
-use mathlib.Core.Bool.{true}
+use mathlib.Core.Bool.{true, false}
 use borrow.Author.Rules.{rules}
 use borrow.Author.Tests.{not-true, not-false}
 use Rattle.pattern.specs.Sound.{sound_of}
@@ -9,7 +9,7 @@ use Rattle.best.specs.Best.{best_refusal}
 use Rattle.best.proofs.refusal.Statement.{statement}
 use Rattle.best.proofs.refusal.Tie as tie
 
-sound-is : (c : tie.Else1) → sound_of c.before.before.before.before.args.p ≡ true
+sound-is : (c : tie.Else1) → sound_of c.before.before.before.args.p ≡ true
 sound-is c = sym c.before.sound.ensures ∙ not-false c.before.sound.result c.if1.false
 
 sound-requires : tie.Need-sound-requires

@@ -2,7 +2,6 @@
 use mathlib.Core.Path.{refl, sym, ap, ◌∙◌}
 use borrow.Author.Rules.{rules}
 use Rattle.monitor.specs.declared.After.{After}
-use Rattle.record.specs.Reading.{readings}
 use Rattle.record.specs.Record.{book_of}
 use Rattle.best.specs.Best.{chosen_to}
 use Rattle.best.specs.Search.{chosen_by}
@@ -19,9 +18,9 @@ slice-aggregate-flag-opened c = search rules
 
 flag-opened-requires : tie.Need-flag-opened-requires
 flag-opened-requires c κs =
-    let st = c.before.before.before.before.before.before.before.before in
+    let st = c.before.before.before.before.before.before.before in
     let a = st.args in
-    (is-sound a.p a.durations.now a.values.now a.read.now a.first.now a.second.now st.requires, search rules)
+    (is-sound a.p a.durations.now a.values.now a.first.now a.second.now st.requires, search rules)
 
 slice-aggregate-feed-all : tie.Need-slice-aggregate-feed-all
 slice-aggregate-feed-all c = search rules
@@ -29,11 +28,11 @@ slice-aggregate-feed-all c = search rules
 feed-all-requires : tie.Need-feed-all-requires
 unfolding chosen_by
 feed-all-requires c κs =
-    let st = c.before.before.before.before.before.before.before.before.before.before.before.before.before in
+    let st = c.before.before.before.before.before.before.before.before.before.before.before.before in
     let a = st.args in
     let o = c.before.before.before.before.before.before.before.before.«open».ensures in (
-      rw o.1.1.0 (fit a.p a.durations.now a.values.now a.read.now a.first.now a.second.now st.requires _ _ (ap (λ (x : After). x.state) o.0) refl),
-      rw o.1.1.0 (flagged a.p a.durations.now a.values.now a.read.now a.first.now a.second.now st.requires _ c.before.before.before.before.flag-opened.ensures),
+      rw o.1.1.0 (fit a.p a.durations.now a.values.now a.first.now a.second.now st.requires _ _ (ap (λ (x : After). x.state) o.0) refl),
+      rw o.1.1.0 (flagged a.p a.durations.now a.values.now a.first.now a.second.now st.requires _ c.before.before.before.before.flag-opened.ensures),
     )
 
 same_length : tie.Need-same-length
@@ -44,17 +43,16 @@ same-length-2 c = search rules
 
 returns : tie.Need-returns
 returns c =
-    let st = c.before.before.before.before.before.before.before.before.before.before.before.before.before.before.before.before.before in
+    let st = c.before.before.before.before.before.before.before.before.before.before.before.before.before.before.before.before in
     let a = st.args in
     let o = c.before.before.before.before.before.before.before.before.before.before.before.before.«open».ensures in
     let f = c.before.before.before.feed-all.ensures in
     let ds = a.durations.now in
-    let vs = a.values.now in
-    let fs = a.read.now in (
-      f.0.1 ∙ ap (chosen_to a.p (book_of a.p.channels ds (readings vs fs))) (sym (book-long a.p a.p.channels ds (readings vs fs))),
+    let vs = a.values.now in (
+      f.0.1 ∙ ap (chosen_to a.p (book_of a.p.channels ds vs)) (sym (book-long a.p a.p.channels ds vs)),
       (
-        first-left a.p ds vs fs a.first.now a.second.now st.requires _ (rw (← o.1.1.0) f.1.0),
-        o.1.1.1 ∙ second-left a.p ds vs fs a.first.now a.second.now st.requires,
+        first-left a.p ds vs a.first.now a.second.now st.requires _ (rw (← o.1.1.0) f.1.0),
+        o.1.1.1 ∙ second-left a.p ds vs a.first.now a.second.now st.requires,
       ),
     )
 

@@ -30,9 +30,9 @@ same-length-4 c = search rules
 
 returns : tie.Need-returns
 returns c =
-    let a = c.before.before.before.before.before.before.before.before.before.before.before.before.before.before.before.before.args in
+    let a = c.before.before.before.before.before.before.before.before.before.before.before.before.before.before.before.args in
     let o = c.before.before.before.before.before.before.feed-with.ensures in
-    let call = call_of a.duration a.values.now a.read.now a.scores.now a.lengths.now in
+    let call = call_of a.duration a.values.now a.scores.now a.lengths.now in
     let k = said (λ (x : After). answer_number x.answer) (feed-numbers a.p a.s a.first.now a.second.now call) o.0 in
     (k.0, (k.1, o.1))
 
@@ -40,7 +40,7 @@ slice-aggregate-feed-with-2 : tie.Need-slice-aggregate-feed-with-2
 slice-aggregate-feed-with-2 c = search rules
 
 feed-with-requires-2 : tie.Need-feed-with-requires-2
-feed-with-requires-2 c κs = λ sound. let h = (parts c.before.before.before.before.before.before.before.before.before.args.p sound).short_high in omega arith
+feed-with-requires-2 c κs = λ sound. let h = (parts c.before.before.before.before.before.before.before.before.args.p sound).short_high in omega arith
 
 same-length-5 : tie.Need-same-length-5
 same-length-5 c = search rules
@@ -56,9 +56,9 @@ same-length-8 c = search rules
 
 returns-2 : tie.Need-returns-2
 returns-2 c =
-    let a = c.before.before.before.before.before.before.before.before.before.before.before.before.before.before.before.before.args in
+    let a = c.before.before.before.before.before.before.before.before.before.before.before.before.before.before.before.args in
     let o = c.before.before.before.before.before.before.feed-with2.ensures in
-    let call = call_of a.duration a.values.now a.read.now a.scores.now a.lengths.now in
+    let call = call_of a.duration a.values.now a.scores.now a.lengths.now in
     let k = said (λ (x : After). answer_number x.answer) (feed-numbers a.p a.s a.first.now a.second.now call) o.0 in
     (k.0, (k.1, o.1))
 

@@ -9,11 +9,11 @@ use Rattle.feed.proofs.feed_with.Statement.{statement}
 use Rattle.feed.proofs.feed_with.Tie as tie
 
 -- a call that is answered `Done` has no cause for a refusal
-accepted : (c : tie.After-enum-told) → let a = c.before.before.before.before.before.before.before.before.before.before.args in feed_cause a.p a.s a.first.now (length a.second.now) a.duration a.values.now a.read.now (length a.scores.now) (length a.lengths.now) ≡ none
+accepted : (c : tie.After-enum-told) → let a = c.before.before.before.before.before.before.before.before.before.args in feed_cause a.p a.s a.first.now (length a.second.now) a.duration a.values.now (length a.scores.now) (length a.lengths.now) ≡ none
 accepted c = done _ (sym c.enum_told.given.1 ∙ c.before.before.before.before.feed-refusal.ensures.0)
 
-told : (c : tie.After-enum-told) → let a = c.before.before.before.before.before.before.before.before.before.before.args in Fed a.p a.s a.first.now (length a.second.now) a.duration a.values.now a.read.now (length a.scores.now) (length a.lengths.now)
-told c = let a = c.before.before.before.before.before.before.before.before.before.before.args in fed a.p a.s a.first.now (length a.second.now) a.duration a.values.now a.read.now (length a.scores.now) (length a.lengths.now) (accepted c)
+told : (c : tie.After-enum-told) → let a = c.before.before.before.before.before.before.before.before.before.args in Fed a.p a.s a.first.now (length a.second.now) a.duration a.values.now (length a.scores.now) (length a.lengths.now)
+told c = let a = c.before.before.before.before.before.before.before.before.before.args in fed a.p a.s a.first.now (length a.second.now) a.duration a.values.now (length a.scores.now) (length a.lengths.now) (accepted c)
 
 feed-refusal-requires : tie.Need-feed-refusal-requires
 feed-refusal-requires c κs = search rules
@@ -26,10 +26,10 @@ layout-of-requires c κs = (told c).sound
 
 feed-piece-requires : tie.Need-feed-piece-requires
 feed-piece-requires c κs =
-    let a = c.before.before.before.before.before.before.before.before.before.before.before.before.before.before.before.args in
+    let a = c.before.before.before.before.before.before.before.before.before.before.before.before.before.before.args in
     let k = c.before.before.before.before.before in
     let e = accepted k in (
-      any_second a.p a.s a.first.now (length a.second.now) (length a.first.now) a.duration a.values.now a.read.now (length a.scores.now) (length a.lengths.now) e (told k).tables.first,
+      any_second a.p a.s a.first.now (length a.second.now) (length a.first.now) a.duration a.values.now (length a.scores.now) (length a.lengths.now) e (told k).tables.first,
       c.before.before.before.before.layout_of.ensures,
       c.before.before.before.before.before.before.before.before.before.feed-refusal.ensures.1 e,
     )
@@ -71,8 +71,8 @@ same-length-7 c = search rules
 
 returns-2 : tie.Need-returns-2
 returns-2 c =
-    let a = c.before.before.before.before.before.before.before.before.before.before.before.args in
-    let e : feed_cause a.p a.s a.first.now (length a.second.now) a.duration a.values.now a.read.now (length a.scores.now) (length a.lengths.now) ≡ some c.before.r.given.0.0 =
+    let a = c.before.before.before.before.before.before.before.before.before.before.args in
+    let e : feed_cause a.p a.s a.first.now (length a.second.now) a.duration a.values.now (length a.scores.now) (length a.lengths.now) ≡ some c.before.r.given.0.0 =
     refused_for_lem _ _ (sym c.before.r.given.1 ∙ c.before.before.before.before.before.feed-refusal.ensures.0) in
     (rw e, (rw e, (rw e, (rw e, rw e))))
 

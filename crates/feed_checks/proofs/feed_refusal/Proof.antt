@@ -25,7 +25,7 @@ use Rattle.feed_checks.proofs.feed_refusal.Tie as tie
 -- ---- the entry, from past the first, second, .. check
 
 abbrev entry-1 : tie.Else1 → tie.Start
-entry-1 c = c.before.before.before.before.before.before.before.before
+entry-1 c = c.before.before.before.before.before.before.before
 
 abbrev entry-2 : tie.Else2 → tie.Start
 entry-2 c = entry-1 c.before.before
@@ -38,10 +38,10 @@ entry-4 c = entry-3 c.before.before
 
 -- ---- what the checks say, and that each gave no cause
 
-sound-is : (c : tie.After-needed) → let p = c.before.before.before.before.before.args.p in (sound_of p ≡ true) × (c.needed.given.0.0 ≡ cells_needed p)
+sound-is : (c : tie.After-needed) → let p = c.before.before.before.before.args.p in (sound_of p ≡ true) × (c.needed.given.0.0 ≡ cells_needed p)
 sound-is c =
     let k = c.before.before in
-    counted k.before.before.before.args.p c.needed.given.0.0 (sym c.needed.given.1 ∙ k.cells.ensures.0)
+    counted k.before.before.args.p c.needed.given.0.0 (sym c.needed.given.1 ∙ k.cells.ensures.0)
 
 sound : (c : tie.Else1) → sound_of (entry-1 c).args.p ≡ true
 sound c = (sound-is c.before.before.before).0
@@ -55,14 +55,14 @@ short-is c = rw (← (sound-is c.before.before.before.before).1) (sym c.too_shor
 not_short : (c : tie.Else2) → let a = (entry-2 c).args in table_too_short a.p (length a.first.now) a.second ≡ false
 not_short c = short-is c.before ∙ c.if2.false
 
-whole : (c : tie.Else3) → let a = (entry-3 c).args in piece_broken a.p a.duration a.values.now a.read.now ≡ false
+whole : (c : tie.Else3) → let a = (entry-3 c).args in piece_broken a.p a.duration a.values.now ≡ false
 whole c = sym c.before.piece-broken.ensures ∙ c.if3.false
 
 room : (c : tie.Else4) → let a = (entry-4 c).args in too_many_ticks a.s.ticks a.duration ≡ false
 room c = le-ltb _ _ c.if4.false
 
 -- past the fourth check two causes are left
-left : (c : tie.Else4) → let a = (entry-4 c).args in feed_cause a.p a.s a.first.now a.second a.duration a.values.now a.read.now a.scores a.lengths ≡ first_cause ((cells_broken a.p a.first.now, BrokenCell) ∷ (reports_too_short a.scores a.lengths a.duration, OutputTooShort) ∷ [])
+left : (c : tie.Else4) → let a = (entry-4 c).args in feed_cause a.p a.s a.first.now a.second a.duration a.values.now a.scores a.lengths ≡ first_cause ((cells_broken a.p a.first.now, BrokenCell) ∷ (reports_too_short a.scores a.lengths a.duration, OutputTooShort) ∷ [])
 unfolding feed_cause
 left c =
     let w = c.before.before in
@@ -183,7 +183,7 @@ returns-8 : tie.Need-returns-8
 unfolding feed_cause
 returns-8 c =
     let k = c.before.before in
-    refuses (rw (refused k.before.before.before.args.p c.enum_told.given.0.0 (sym c.enum_told.given.1 ∙ k.cells.ensures.0)))
+    refuses (rw (refused k.before.before.args.p c.enum_told.given.0.0 (sym c.enum_told.given.1 ∙ k.cells.ensures.0)))
 
 pub feed-refusal-spec : {M : Type 1} → statement M
 feed-refusal-spec =

@@ -6,10 +6,6 @@ use mathlib.Core.List.{List}
 use borrow.Author.Rules.{rules}
 use lib.ListN.{length, get_or}
 use lib.IntN.{ℤ, pos}
-use Rattle.pattern.specs.Slots.{all}
-use Rattle.record.specs.Reading.{readings}
-use Rattle.record.specs.Record.{value_in_range}
-use Rattle.record.proofs.ReadingLaws.{readings-values}
 use Rattle.monitor.specs.Tick.{score_in, length_in}
 use Rattle.feed_ticks.specs.Ticks.{repeated}
 use Rattle.feed_moves.proofs.Meaning.{fine-whole, telling, written-to, scores-told, lengths-told}
@@ -49,30 +45,30 @@ cast-moved c = search rules
 
 tell-all-requires : tie.Need-tell-all-requires
 tell-all-requires c κs =
-    let s = c.before.before.before.before.before.before.before.before.before.before.before.before.before.before.before.before.before in
+    let s = c.before.before.before.before.before.before.before.before.before.before.before.before.before.before.before in
     let a = s.args in
     let sound = s.requires.0 in
-    let fine = ap (all value_in_range) (readings-values a.values.now a.read.now s.requires.4) ∙ s.requires.2 in
-    let long = s.requires.5 in
-    let whole = fine-whole a.p sound a.first.now long s.requires.6 in
+    let fine = s.requires.2 in
+    let long = s.requires.3 in
+    let whole = fine-whole a.p sound a.first.now long s.requires.4 in
     let m = c.before.before.before.before.least.result in
     let is : m ≡ min a.duration _ = c.before.before.before.before.least.ensures in
-    let scores = s.requires.7 in
-    let lengths = s.requires.8 in (
+    let scores = s.requires.5 in
+    let lengths = s.requires.6 in (
       rw (s.requires.1, c.before.before.before.before.before.before.before.before.before.before.before.before.view_in.ensures, c.before.before.before.before.before.before.before.before.before.before.before.view-in2.ensures, c.before.before.before.before.before.before.before.before.before.kind-flags.ensures, c.before.before.before.before.before.before.before.before.kind-flags2.ensures)
-          (telling a.p sound (readings a.values.now a.read.now) fine (readings a.last.now a.known.now) a.first.now long whole _ _ _ (omega arith) (omega arith)),
-      rw s.requires.1 s.requires.9,
+          (telling a.p sound a.values.now fine a.last.now a.first.now long whole _ _ _ (omega arith) (omega arith)),
+      rw s.requires.1 s.requires.7,
     )
 
 repeat-last-requires : tie.Need-repeat-last-requires
 repeat-last-requires c κs =
-    let s = c.before.before.before.before.before.before.before.before.before.before.before.before.before.before.before.before.before.before.before.before.before.before.before.before.before.before in
+    let s = c.before.before.before.before.before.before.before.before.before.before.before.before.before.before.before.before.before.before.before.before.before.before.before.before in
     let a = s.args in
     let m = c.before.before.before.before.before.before.before.before.before.before.before.before.before.least.result in
     let is : m ≡ min a.duration _ = c.before.before.before.before.before.before.before.before.before.before.before.before.before.least.ensures in
     let k = c.before.before.before.before.before.before.before.before.tell-all in
-    let scores = s.requires.7 in
-    let lengths = s.requires.8 in
+    let scores = s.requires.5 in
+    let lengths = s.requires.6 in
     let scores_are_long : length k.new.1.1.0 ≡ length a.scores.now = k.auto.1.1.0 in
     let lengths_are_long : length k.new.1.1.1.0 ≡ length a.lengths.now = k.auto.1.1.1.0 in
     let scores-room : a.duration ≤ length k.new.1.1.0 = omega arith in
@@ -93,12 +89,12 @@ same-length-4 c = search rules
 
 returns : tie.Need-returns
 returns c =
-    let s = c.before.before.before.before.before.before.before.before.before.before.before.before.before.before.before.before.before.before.before.before.before.before.before.before.before.before.before.before.before.before in
+    let s = c.before.before.before.before.before.before.before.before.before.before.before.before.before.before.before.before.before.before.before.before.before.before.before.before.before.before.before.before in
     let a = s.args in
     let sound = s.requires.0 in
-    let fine = ap (all value_in_range) (readings-values a.values.now a.read.now s.requires.4) ∙ s.requires.2 in
-    let long = s.requires.5 in
-    let whole = fine-whole a.p sound a.first.now long s.requires.6 in
+    let fine = s.requires.2 in
+    let long = s.requires.3 in
+    let whole = fine-whole a.p sound a.first.now long s.requires.4 in
     let o = c.before.before.before.before.before.before.before.before.before.before.before.before.tell-all.ensures in
     let r = c.before.before.before.repeat-last.ensures in
     let m = c.before.before.before.before.before.before.before.before.before.before.before.before.before.before.before.before.before.least.result in
@@ -109,15 +105,15 @@ returns c =
     let u = c.before.before.before.before.before.before.before.before.before.before.before.before.before.before.before.before.before.before.before.before.before.before.before.before.view-in2.ensures in
     let starts = c.before.before.before.before.before.before.before.before.before.before.before.before.before.before.before.before.before.before.before.before.before.before.kind-flags.ensures in
     let ends = c.before.before.before.before.before.before.before.before.before.before.before.before.before.before.before.before.before.before.before.before.before.kind-flags2.ensures in (
-      o.0 ∙ rw (l, v, u, starts, ends) (written-to a.p sound (readings a.values.now a.read.now) fine (readings a.last.now a.known.now) a.first.now long whole m) ∙ table-still a.p sound (readings a.last.now a.known.now) (readings a.values.now a.read.now) a.first.now d m is,
+      o.0 ∙ rw (l, v, u, starts, ends) (written-to a.p sound a.values.now fine a.last.now a.first.now long whole m) ∙ table-still a.p sound a.last.now a.values.now a.first.now d m is,
       (
         r.0
-            ∙ ap (λ (x : List ℤ). repeated x m (d - m) (get_or x (m - 1) (pos 0))) (o.1.0 ∙ rw (l, v, u, starts, ends) (scores-told a.p sound (readings a.values.now a.read.now) fine (readings a.last.now a.known.now) a.first.now long whole a.scores.now m))
-            ∙ reports-still a.p sound (readings a.last.now a.known.now) (readings a.values.now a.read.now) a.first.now d m is score_in a.scores.now (pos 0) s.requires.7,
+            ∙ ap (λ (x : List ℤ). repeated x m (d - m) (get_or x (m - 1) (pos 0))) (o.1.0 ∙ rw (l, v, u, starts, ends) (scores-told a.p sound a.values.now fine a.last.now a.first.now long whole a.scores.now m))
+            ∙ reports-still a.p sound a.last.now a.values.now a.first.now d m is score_in a.scores.now (pos 0) s.requires.5,
         (
           r.1
-              ∙ ap (λ (x : List ℕ). repeated x m (d - m) (get_or x (m - 1) 0)) (o.1.1.0 ∙ rw (l, v, u, starts, ends) (lengths-told a.p sound (readings a.values.now a.read.now) fine (readings a.last.now a.known.now) a.first.now long whole a.lengths.now m))
-              ∙ reports-still a.p sound (readings a.last.now a.known.now) (readings a.values.now a.read.now) a.first.now d m is length_in a.lengths.now 0 s.requires.8,
+              ∙ ap (λ (x : List ℕ). repeated x m (d - m) (get_or x (m - 1) 0)) (o.1.1.0 ∙ rw (l, v, u, starts, ends) (lengths-told a.p sound a.values.now fine a.last.now a.first.now long whole a.lengths.now m))
+              ∙ reports-still a.p sound a.last.now a.values.now a.first.now d m is length_in a.lengths.now 0 s.requires.6,
           rw (← l) o.1.1.1,
         ),
       ),

@@ -26,14 +26,14 @@ price-told-requires-2 c κs = search rules
 
 returns : tie.Need-returns
 returns c =
-    let x = read_of c.before.before.before.before.before.before.before.before.before.before.before.args.text.now in
+    let x = read_of c.before.before.before.before.before.before.before.before.before.before.args.text.now in
     let r = c.before.before.before.before.before.read in
     let is : x ≡ accepted r.result.pattern = accepted-is x r.result r.ensures.0 c.before.before.enum_told.given.1 in
     rw (is, c.price-told.ensures, c.before.price.ensures.0)
 
 returns-2 : tie.Need-returns-2
 returns-2 c =
-    let x = read_of c.before.before.before.before.before.before.before.before.before.before.before.args.text.now in
+    let x = read_of c.before.before.before.before.before.before.before.before.before.before.args.text.now in
     let r = c.before.before.before.before.before.read in
     let is : x ≡ refused c.before.before.outcome.given.0.0 = refused_is x r.result _ r.ensures.0 c.before.before.outcome.given.1 in
     rw is c.price-told2.ensures

@@ -18,7 +18,7 @@ same_length c = search rules
 
 returns : tie.Need-returns
 returns c =
-    let e : holds_state c.before.before.before.before.before.args.state.now ≡ false = sym c.before.holds-state.ensures ∙ not-true _ c.if1.true in
+    let e : holds_state c.before.before.before.before.args.state.now ≡ false = sym c.before.holds-state.ensures ∙ not-true _ c.if1.true in
     (rw e, (rw e, (rw e, (rw e, (rw e, rw e)))))
 
 state-in-requires : tie.Need-state-in-requires
@@ -31,7 +31,7 @@ enum_told : tie.Need-enum-told
 enum_told c = search rules
 
 put-state-requires : tie.Need-put-state-requires
-put-state-requires c κs = (holds c.before.before.before.before.before.before.before.before.before.before.before.before.before.before.before.before.before.before.before.before.before.args.state.now (sym c.before.before.before.before.before.before.before.before.before.before.before.before.before.before.before.before.before.holds-state.ensures ∙ not-false _ c.before.before.before.before.before.before.before.before.before.before.before.before.before.before.before.before.if1.false)).long
+put-state-requires c κs = (holds c.before.before.before.before.before.before.before.before.before.before.before.before.before.before.before.before.before.before.before.before.args.state.now (sym c.before.before.before.before.before.before.before.before.before.before.before.before.before.before.before.before.before.holds-state.ensures ∙ not-false _ c.before.before.before.before.before.before.before.before.before.before.before.before.before.before.before.before.if1.false)).long
 
 enum-known-answer : tie.Need-enum-known-answer
 enum-known-answer c = search rules
@@ -56,11 +56,11 @@ same-length-6 c = search rules
 
 returns-2 : tie.Need-returns-2
 returns-2 c =
-    let a = c.before.before.before.before.before.before.before.before.before.before.before.before.before.before.before.before.before.before.before.before.before.before.before.args in
+    let a = c.before.before.before.before.before.before.before.before.before.before.before.before.before.before.before.before.before.before.before.before.before.before.args in
     let l = a.state.now in
     let e : holds_state l ≡ true = sym c.before.before.before.before.before.before.before.before.before.before.before.before.before.before.before.before.before.before.before.holds-state.ensures ∙ not-false _ c.before.before.before.before.before.before.before.before.before.before.before.before.before.before.before.before.before.before.if1.false in
     let o = c.before.before.before.before.before.before.before.before.before.before.before.feed-through in
-    let call = call_of a.duration a.values.now a.read.now a.scores.now a.lengths.now in
+    let call = call_of a.duration a.values.now a.scores.now a.lengths.now in
     let s-is = c.before.before.before.before.before.before.before.before.before.before.before.before.before.before.before.before.state-in.ensures in
     let f = rw s-is at o.ensures in
     let k = feed-done a.p l a.first.now a.second.now call e o.result f.0 c.before.before.before.enum_told.given.1 in
@@ -83,11 +83,11 @@ same-length-11 c = search rules
 
 returns-3 : tie.Need-returns-3
 returns-3 c =
-    let a = c.before.before.before.before.before.before.before.before.before.before.before.before.before.before.before.before.before.before.before.before.before.before.args in
+    let a = c.before.before.before.before.before.before.before.before.before.before.before.before.before.before.before.before.before.before.before.before.before.args in
     let l = a.state.now in
     let e : holds_state l ≡ true = sym c.before.before.before.before.before.before.before.before.before.before.before.before.before.before.before.before.before.before.holds-state.ensures ∙ not-false _ c.before.before.before.before.before.before.before.before.before.before.before.before.before.before.before.before.before.if1.false in
     let o = c.before.before.before.before.before.before.before.before.before.before.feed-through in
-    let call = call_of a.duration a.values.now a.read.now a.scores.now a.lengths.now in
+    let call = call_of a.duration a.values.now a.scores.now a.lengths.now in
     let s-is = c.before.before.before.before.before.before.before.before.before.before.before.before.before.before.before.state-in.ensures in
     let f = rw s-is at o.ensures in
     let k = feed_refused a.p l a.first.now a.second.now call e o.result f.0 _ c.before.before.answer.given.1 in

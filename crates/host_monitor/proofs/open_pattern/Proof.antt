@@ -18,7 +18,7 @@ number-or-requires c κs = search rules
 returns : tie.Need-returns
 returns c =
     let a = c.before.before.before.args in
-    rw (lt-leb 17 (length a.state.now) c.before.before.if1.true)
+    rw (lt-leb 9 (length a.state.now) c.before.before.if1.true)
     (c.number-or.ensures ∙ ap (λ (x : monitor.Answer). number_or x 12) c.before.open-refusal.ensures, (refl, (refl, refl)))
 
 no-ticks-requires : tie.Need-no-ticks-requires

@@ -31,7 +31,7 @@ use denote.Lend.{lends_ref, ref_back}
 use denote.Memory.{mem}
 use denote.Plain.{uint_vals, uint_Tells, uint_Lawful}
 use denote.Slice.{shr_slice_vals, ShrSlice, shr_slice_Tells, shr_slice_Lawful, MutSlice, mut_slice_Tells, mut_slice_Lawful}
-use denote.Builtin.{i32, i64, u8, u32}
+use denote.Builtin.{i32, i64, u32}
 use denote.Ref.{Bor, MutBor, MutRef}
 use denote.Steps.{only, owned, facts, heard, nothing}
 use denote.Struct.Laws as LL
@@ -72,7 +72,7 @@ use Rattle.lent_state.proofs.feed_through.Code as code
 
 -- the parameters after the state
 abbrev Rest : Type 0
-Rest = Pattern × (Bor (List ℤ) × (Bor (List ℤ) × (ℕ × (Bor (List ℤ) × (Bor (List ℕ) × (Bor (List ℤ) × (Bor (List ℕ) × Unit {0})))))))
+Rest = Pattern × (Bor (List ℤ) × (Bor (List ℤ) × (ℕ × (Bor (List ℤ) × (Bor (List ℤ) × (Bor (List ℕ) × Unit {0}))))))
 
 -- at exit nothing is had of the state, which is plain, and the rest was passed on
 abbrev stayed : Stays (through.ended).signature.params (through.ended).kept
@@ -86,7 +86,7 @@ module _ {M : Type 1} {𝓤 : Ura M} (𝓛 : Logic 𝓤) (at_mem : Memory → SP
   abbrev Lent : Contract 𝓤
   Lent = triple_of 𝓛 lent.signature (lent.spec 𝓛 at_mem run)
 
-module _ {M : Type 1} {𝓤 : Ura M} (𝓛 : Logic 𝓤) (at_mem : Memory → SProp 𝓤) (run : Routine → Fun 𝓤) (κs : Lfts 6) (qs : Shares 6) (h : State) (a : Rest) where
+module _ {M : Type 1} {𝓤 : Ura M} (𝓛 : Logic 𝓤) (at_mem : Memory → SProp 𝓤) (run : Routine → Fun 𝓤) (κs : Lfts 5) (qs : Shares 5) (h : State) (a : Rest) where
   -- what the definitions speak of
   open 𝓛 use {H, A}
 
@@ -100,14 +100,14 @@ module _ {M : Type 1} {𝓤 : Ura M} (𝓛 : Logic 𝓤) (at_mem : Memory → SP
   u = a.1.1.0.now
 
   abbrev c : Call
-  c = call_of a.1.1.1.0 a.1.1.1.1.0.now a.1.1.1.1.1.0.now a.1.1.1.1.1.1.0.now a.1.1.1.1.1.1.1.0.now
+  c = call_of a.1.1.1.0 a.1.1.1.1.0.now a.1.1.1.1.1.0.now a.1.1.1.1.1.1.0.now
 
   abbrev kinds : List RattleType
-  kinds = P.the_row ∷ MutSlice (named 0) κs.0 i64 ∷ MutSlice (named 1) κs.1.0 i64 ∷ u32 ∷ ShrSlice (named 2) κs.1.1.0 i32 ∷ ShrSlice (named 3) κs.1.1.1.0 u8 ∷ MutSlice (named 4) κs.1.1.1.1.0 i64 ∷ MutSlice (named 5) κs.1.1.1.1.1.0 u32 ∷ []
+  kinds = P.the_row ∷ MutSlice (named 0) κs.0 i64 ∷ MutSlice (named 1) κs.1.0 i64 ∷ u32 ∷ ShrSlice (named 2) κs.1.1.0 i32 ∷ MutSlice (named 3) κs.1.1.1.0 i64 ∷ MutSlice (named 4) κs.1.1.1.1.0 u32 ∷ []
 
   -- the machine values of the rest, and of the state
   abbrev vals : Valss kinds
-  vals = (LL.vals P.the_type P'.the_laws a.0, (shr_slice_vals a.1.0, (shr_slice_vals a.1.1.0, (vint w32 a.1.1.1.0 ∷ [], (shr_slice_vals a.1.1.1.1.0, (shr_slice_vals a.1.1.1.1.1.0, (shr_slice_vals a.1.1.1.1.1.1.0, (shr_slice_vals a.1.1.1.1.1.1.1.0, tt))))))))
+  vals = (LL.vals P.the_type P'.the_laws a.0, (shr_slice_vals a.1.0, (shr_slice_vals a.1.1.0, (vint w32 a.1.1.1.0 ∷ [], (shr_slice_vals a.1.1.1.1.0, (shr_slice_vals a.1.1.1.1.1.0, (shr_slice_vals a.1.1.1.1.1.1.0, tt)))))))
 
   abbrev hs : List Val
   hs = LL.vals S.the_type S'.the_laws h
@@ -136,11 +136,11 @@ module _ {M : Type 1} {𝓤 : Ura M} (𝓛 : Logic 𝓤) (at_mem : Memory → SP
       raw (fact 𝓤 (s ≡ feed_state p h t u c)) ⊛
       raw (fact 𝓤 (ws.1.0 ≡ feed_first p h t u c)) ⊛
       raw (fact 𝓤 (ws.1.1.0 ≡ feed_second p h t u c)) ⊛
-      raw (fact 𝓤 (ws.1.1.1.1.1.1.0 ≡ feed_scores p h t u c)) ⊛
-      raw (fact 𝓤 (ws.1.1.1.1.1.1.1.0 ≡ feed_lengths p h t u c))
+      raw (fact 𝓤 (ws.1.1.1.1.1.0 ≡ feed_scores p h t u c)) ⊛
+      raw (fact 𝓤 (ws.1.1.1.1.1.1.0 ≡ feed_lengths p h t u c))
 
   -- it is what `feed_through` owes of what it returns and of each slice
-  promised : (r : Answer) (s : State) (ws : Last) → r ≡ feed_answer p h t u c → s ≡ feed_state p h t u c → ws.1.0 ≡ feed_first p h t u c → ws.1.1.0 ≡ feed_second p h t u c → ws.1.1.1.1.1.1.0 ≡ feed_scores p h t u c → ws.1.1.1.1.1.1.1.0 ≡ feed_lengths p h t u c
+  promised : (r : Answer) (s : State) (ws : Last) → r ≡ feed_answer p h t u c → s ≡ feed_state p h t u c → ws.1.0 ≡ feed_first p h t u c → ws.1.1.0 ≡ feed_second p h t u c → ws.1.1.1.1.1.0 ≡ feed_scores p h t u c → ws.1.1.1.1.1.1.0 ≡ feed_lengths p h t u c
       → ent 𝓤 (emp 𝓤) ((through.clauses 𝓛 at_mem run κs (h, a)).ensures tt (both s r) (at_exit through.ended κs (h, a) (tt, ws)))
   promised r s ws e₀ e₁ e₂ e₃ e₄ e₅ =
       told-first 𝓤 (ap₂ both e₁ e₀)
@@ -153,7 +153,7 @@ module _ {M : Type 1} {𝓤 : Ura M} (𝓛 : Logic 𝓤) (at_mem : Memory → SP
       → ent 𝓤 (sep 𝓤 (sem 𝓛 (lasts_of κs (rest (through.signature).params) (through.ended).kept.1 a ws)) (alive 𝓛 through.signature κs qs)) (Post (LL.val R.the_type R'.the_laws (both s r)))
   exits r s ws owes is =
       qed 𝓛 (‵ (lasts_of κs (rest (through.signature).params) (through.ended).kept.1 a ws) ∷ Toks ∷ []) ∵
-      suffices ! _ (ends_telling 𝓛 through.ended stayed (through.clauses 𝓛 at_mem run) from-caller (LL.val R.the_type R'.the_laws (both s r)) (both s r) (tt, ws) (tt, (tt, (tt, (tt, (tt, (tt, (tt, (tt, (tt, tt))))))))) owes) $
+      suffices ! _ (ends_telling 𝓛 through.ended stayed (through.clauses 𝓛 at_mem run) from-caller (LL.val R.the_type R'.the_laws (both s r)) (both s r) (tt, ws) (tt, (tt, (tt, (tt, (tt, (tt, (tt, (tt, tt)))))))) owes) $
       move ! (1 ∷ []) $ frame ! $ nothing ! $ fjoin ! $ owned ! R.the_row (Is R.the_row) (LL.makes R.the_type R'.the_plain 𝓛) (both s r) _ is $ move ! (1 ∷ 0 ∷ []) $ done !
 
   -- the call, with the local at l lent at the lifetime α under the name γ
@@ -168,74 +168,73 @@ module _ {M : Type 1} {𝓤 : Ura M} (𝓛 : Logic 𝓤) (at_mem : Memory → SP
     goes-lent = qed 𝓛 ((‵ (flft (α ∷ []) full_share) ⊛ Toks) ∷ ‵ (owns (MutRef (named 0) (α ∷ []) S.the_row ∷ kinds) x (vptr l zero ∷ [], vals)) ∷ []) ∵ join ! $ frame ! $ done !
 
   module _ (C : Calls 𝓤 H) (Λ : Loops 𝓤 H) (fm : FmC 𝓤 H 𝓛.laws C) (known : Triple 𝓤 (C #lent) (Lent 𝓛 at_mem run)) where
-    walk : Is S.the_row h hs → Is P.the_row a.0 vals.0 → Is (MutSlice (named 0) κs.0 i64) a.1.0 vals.1.0 → Is (MutSlice (named 1) κs.1.0 i64) a.1.1.0 vals.1.1.0 → Is u32 a.1.1.1.0 vals.1.1.1.0 → Is (ShrSlice (named 2) κs.1.1.0 i32) a.1.1.1.1.0 vals.1.1.1.1.0 → Is (ShrSlice (named 3) κs.1.1.1.0 u8) a.1.1.1.1.1.0 vals.1.1.1.1.1.0 → Is (MutSlice (named 4) κs.1.1.1.1.0 i64) a.1.1.1.1.1.1.0 vals.1.1.1.1.1.1.0 → Is (MutSlice (named 5) κs.1.1.1.1.1.0 u32) a.1.1.1.1.1.1.1.0 vals.1.1.1.1.1.1.1.0
-        → ent 𝓤 (on_entry 𝓛 through.signature κs qs (h, a) (hs, vals)) (WpFn 𝓤 H C Λ code.function (only hs ∷ only vals.0 ∷ only vals.1.0 ∷ only vals.1.1.0 ∷ only vals.1.1.1.0 ∷ only vals.1.1.1.1.0 ∷ only vals.1.1.1.1.1.0 ∷ only vals.1.1.1.1.1.1.0 ∷ only vals.1.1.1.1.1.1.1.0 ∷ []) Post)
-    walk p₀ p₁ p₂ p₃ p₄ p₅ p₆ p₇ p₈ =
+    walk : Is S.the_row h hs → Is P.the_row a.0 vals.0 → Is (MutSlice (named 0) κs.0 i64) a.1.0 vals.1.0 → Is (MutSlice (named 1) κs.1.0 i64) a.1.1.0 vals.1.1.0 → Is u32 a.1.1.1.0 vals.1.1.1.0 → Is (ShrSlice (named 2) κs.1.1.0 i32) a.1.1.1.1.0 vals.1.1.1.1.0 → Is (MutSlice (named 3) κs.1.1.1.0 i64) a.1.1.1.1.1.0 vals.1.1.1.1.1.0 → Is (MutSlice (named 4) κs.1.1.1.1.0 u32) a.1.1.1.1.1.1.0 vals.1.1.1.1.1.1.0
+        → ent 𝓤 (on_entry 𝓛 through.signature κs qs (h, a) (hs, vals)) (WpFn 𝓤 H C Λ code.function (only hs ∷ only vals.0 ∷ only vals.1.0 ∷ only vals.1.1.0 ∷ only vals.1.1.1.0 ∷ only vals.1.1.1.1.0 ∷ only vals.1.1.1.1.1.0 ∷ only vals.1.1.1.1.1.1.0 ∷ []) Post)
+    walk p₀ p₁ p₂ p₃ p₄ p₅ p₆ p₇ =
         qed 𝓛 (Toks ∷ ‵ (owns (S.the_row ∷ kinds) (h, a) (hs, vals)) ∷ []) ∵ move ! (1 ∷ []) $ fsplit ! $ drop ! $
         -- [what the rest owns; the rest's tokens]
-        enter ! C Λ code.function (only hs ∷ only vals.0 ∷ only vals.1.0 ∷ only vals.1.1.0 ∷ only vals.1.1.1.0 ∷ only vals.1.1.1.1.0 ∷ only vals.1.1.1.1.1.0 ∷ only vals.1.1.1.1.1.1.0 ∷ only vals.1.1.1.1.1.1.1.0 ∷ []) _ $
-        alloc1 ! (λ l₀. alloc1 ! (λ l₁. alloc1 ! (λ l₂. alloc1 ! (λ l₃. alloc1 ! (λ l₄. alloc1 ! (λ l₅. alloc1 ! (λ l₆. alloc1 ! (λ l₇. alloc1 ! (λ l₈. alloc1 ! (λ l₉. alloc1 ! (λ l₁₀. alloc1 ! (λ l₁₁. alloc1 ! (λ l₁₂. alloc1 ! (λ l₁₃. alloc1 ! (λ l₁₄. alloc1 ! (λ l₁₅. alloc1 ! (λ l₁₆. alloc1 ! (λ l₁₇. alloc1 ! (λ l₁₈. alloc1 ! (λ l₁₉. alloc1 ! (λ l₂₀. alloc1 ! (λ l₂₁. alloc0 ! $
-        -- [_21 at 0; _20 at 2; _19 at 4; _18 at 6; _17 at 8; _16 at 10; _15 at 12; _14 at 14; _13 at 16; _12 at 18; _11 at 20; _10 at 22; _9 at 24; _8 at 26; _7 at 28; _6 at 30; _5 at 32; _4 at 34; _3 at 36; _2 at 38; _1 at 40; _0 at 42; what the rest owns; the rest's tokens]
-        params1 ! $ pass1 ! (init ! 40 refl ((LL.lawful S.the_type S'.the_laws 𝓛).typed h _ p₀).0) $
-        pass1 ! (init ! 38 refl ((LL.lawful P.the_type P'.the_laws 𝓛).typed a.0 _ p₁).0) $
-        pass1 ! (init ! 36 refl ((mut_slice_Lawful 𝓛 (named 0) κs.0 i64).typed a.1.0 _ p₂).0) $
-        pass1 ! (init ! 34 refl ((mut_slice_Lawful 𝓛 (named 1) κs.1.0 i64).typed a.1.1.0 _ p₃).0) $
-        pass1 ! (init ! 32 refl ((uint_Lawful 𝓛 w32).typed a.1.1.1.0 _ p₄).0) $
-        pass1 ! (init ! 30 refl ((shr_slice_Lawful 𝓛 (named 2) κs.1.1.0 i32).typed a.1.1.1.1.0 _ p₅).0) $
-        pass1 ! (init ! 28 refl ((shr_slice_Lawful 𝓛 (named 3) κs.1.1.1.0 u8).typed a.1.1.1.1.1.0 _ p₆).0) $
-        pass1 ! (init ! 26 refl ((mut_slice_Lawful 𝓛 (named 4) κs.1.1.1.1.0 i64).typed a.1.1.1.1.1.1.0 _ p₇).0) $
-        pass1 ! (init ! 24 refl ((mut_slice_Lawful 𝓛 (named 5) κs.1.1.1.1.1.0 u32).typed a.1.1.1.1.1.1.1.0 _ p₈).0) $
+        enter ! C Λ code.function (only hs ∷ only vals.0 ∷ only vals.1.0 ∷ only vals.1.1.0 ∷ only vals.1.1.1.0 ∷ only vals.1.1.1.1.0 ∷ only vals.1.1.1.1.1.0 ∷ only vals.1.1.1.1.1.1.0 ∷ []) _ $
+        alloc1 ! (λ l₀. alloc1 ! (λ l₁. alloc1 ! (λ l₂. alloc1 ! (λ l₃. alloc1 ! (λ l₄. alloc1 ! (λ l₅. alloc1 ! (λ l₆. alloc1 ! (λ l₇. alloc1 ! (λ l₈. alloc1 ! (λ l₉. alloc1 ! (λ l₁₀. alloc1 ! (λ l₁₁. alloc1 ! (λ l₁₂. alloc1 ! (λ l₁₃. alloc1 ! (λ l₁₄. alloc1 ! (λ l₁₅. alloc1 ! (λ l₁₆. alloc1 ! (λ l₁₇. alloc1 ! (λ l₁₈. alloc1 ! (λ l₁₉. alloc1 ! (λ l₂₀. alloc0 ! $
+        -- [_20 at 0; _19 at 2; _18 at 4; _17 at 6; _16 at 8; _15 at 10; _14 at 12; _13 at 14; _12 at 16; _11 at 18; _10 at 20; _9 at 22; _8 at 24; _7 at 26; _6 at 28; _5 at 30; _4 at 32; _3 at 34; _2 at 36; _1 at 38; _0 at 40; what the rest owns; the rest's tokens]
+        params1 ! $ pass1 ! (init ! 38 refl ((LL.lawful S.the_type S'.the_laws 𝓛).typed h _ p₀).0) $
+        pass1 ! (init ! 36 refl ((LL.lawful P.the_type P'.the_laws 𝓛).typed a.0 _ p₁).0) $
+        pass1 ! (init ! 34 refl ((mut_slice_Lawful 𝓛 (named 0) κs.0 i64).typed a.1.0 _ p₂).0) $
+        pass1 ! (init ! 32 refl ((mut_slice_Lawful 𝓛 (named 1) κs.1.0 i64).typed a.1.1.0 _ p₃).0) $
+        pass1 ! (init ! 30 refl ((uint_Lawful 𝓛 w32).typed a.1.1.1.0 _ p₄).0) $
+        pass1 ! (init ! 28 refl ((shr_slice_Lawful 𝓛 (named 2) κs.1.1.0 i32).typed a.1.1.1.1.0 _ p₅).0) $
+        pass1 ! (init ! 26 refl ((mut_slice_Lawful 𝓛 (named 3) κs.1.1.1.0 i64).typed a.1.1.1.1.1.0 _ p₆).0) $
+        pass1 ! (init ! 24 refl ((mut_slice_Lawful 𝓛 (named 4) κs.1.1.1.1.0 u32).typed a.1.1.1.1.1.1.0 _ p₇).0) $
         pass0 ! $
-        -- _10 = _1; _12 = &mut _10
-        assigns ! (of_opd ! (load ! (from ! (stop !)) (look ! 40 refl))) (from ! (stop !)) (init ! 22 refl ((LL.lawful S.the_type S'.the_laws 𝓛).typed h _ p₀).0) $
+        -- _9 = _1; _11 = &mut _9
+        assigns ! (of_opd ! (load ! (from ! (stop !)) (look ! 38 refl))) (from ! (stop !)) (init ! 22 refl ((LL.lawful S.the_type S'.the_laws 𝓛).typed h _ p₀).0) $
         assigns ! (addr ! (from ! (stop !))) (from ! (stop !)) (init ! 18 refl (tt, tt)) $
-        -- _13 = &mut *_3.0; _14 = (_13, _3.1)
-        assigns ! (addr ! (from ! (fld ! refl (hop ! (look_in ! 36 (sub ! 0 refl (whole !))) (stop !))))) (from ! (stop !)) (init ! 16 refl (tt, tt)) $
-        assigns ! (agg ! (and_then ! (load ! (from ! (stop !)) (look ! 16 refl)) (and_then ! (load ! (from ! (fld ! refl (stop !))) (look_in ! 36 (sub ! 1 refl (whole !)))) (no_more !)))) (from ! (stop !)) (init ! 14 refl (tt, (tt, (record { fits = p₂.0.1.0 }, tt)))) $
-        -- _15 = &mut *_4.0; _16 = (_15, _4.1)
-        assigns ! (addr ! (from ! (fld ! refl (hop ! (look_in ! 34 (sub ! 0 refl (whole !))) (stop !))))) (from ! (stop !)) (init ! 12 refl (tt, tt)) $
-        assigns ! (agg ! (and_then ! (load ! (from ! (stop !)) (look ! 12 refl)) (and_then ! (load ! (from ! (fld ! refl (stop !))) (look_in ! 34 (sub ! 1 refl (whole !)))) (no_more !)))) (from ! (stop !)) (init ! 10 refl (tt, (tt, (record { fits = p₃.0.1.0 }, tt)))) $
-        -- _17 = &mut *_8.0; _18 = (_17, _8.1)
+        -- _12 = &mut *_3.0; _13 = (_12, _3.1)
+        assigns ! (addr ! (from ! (fld ! refl (hop ! (look_in ! 34 (sub ! 0 refl (whole !))) (stop !))))) (from ! (stop !)) (init ! 16 refl (tt, tt)) $
+        assigns ! (agg ! (and_then ! (load ! (from ! (stop !)) (look ! 16 refl)) (and_then ! (load ! (from ! (fld ! refl (stop !))) (look_in ! 34 (sub ! 1 refl (whole !)))) (no_more !)))) (from ! (stop !)) (init ! 14 refl (tt, (tt, (record { fits = p₂.0.1.0 }, tt)))) $
+        -- _14 = &mut *_4.0; _15 = (_14, _4.1)
+        assigns ! (addr ! (from ! (fld ! refl (hop ! (look_in ! 32 (sub ! 0 refl (whole !))) (stop !))))) (from ! (stop !)) (init ! 12 refl (tt, tt)) $
+        assigns ! (agg ! (and_then ! (load ! (from ! (stop !)) (look ! 12 refl)) (and_then ! (load ! (from ! (fld ! refl (stop !))) (look_in ! 32 (sub ! 1 refl (whole !)))) (no_more !)))) (from ! (stop !)) (init ! 10 refl (tt, (tt, (record { fits = p₃.0.1.0 }, tt)))) $
+        -- _16 = &mut *_7.0; _17 = (_16, _7.1)
         assigns ! (addr ! (from ! (fld ! refl (hop ! (look_in ! 26 (sub ! 0 refl (whole !))) (stop !))))) (from ! (stop !)) (init ! 8 refl (tt, tt)) $
-        assigns ! (agg ! (and_then ! (load ! (from ! (stop !)) (look ! 8 refl)) (and_then ! (load ! (from ! (fld ! refl (stop !))) (look_in ! 26 (sub ! 1 refl (whole !)))) (no_more !)))) (from ! (stop !)) (init ! 6 refl (tt, (tt, (record { fits = p₇.0.1.0 }, tt)))) $
-        -- _19 = &mut *_9.0; _20 = (_19, _9.1)
+        assigns ! (agg ! (and_then ! (load ! (from ! (stop !)) (look ! 8 refl)) (and_then ! (load ! (from ! (fld ! refl (stop !))) (look_in ! 26 (sub ! 1 refl (whole !)))) (no_more !)))) (from ! (stop !)) (init ! 6 refl (tt, (tt, (record { fits = p₆.0.1.0 }, tt)))) $
+        -- _18 = &mut *_8.0; _19 = (_18, _8.1)
         assigns ! (addr ! (from ! (fld ! refl (hop ! (look_in ! 24 (sub ! 0 refl (whole !))) (stop !))))) (from ! (stop !)) (init ! 4 refl (tt, tt)) $
-        assigns ! (agg ! (and_then ! (load ! (from ! (stop !)) (look ! 4 refl)) (and_then ! (load ! (from ! (fld ! refl (stop !))) (look_in ! 24 (sub ! 1 refl (whole !)))) (no_more !)))) (from ! (stop !)) (init ! 2 refl (tt, (tt, (record { fits = p₈.0.1.0 }, tt)))) $
+        assigns ! (agg ! (and_then ! (load ! (from ! (stop !)) (look ! 4 refl)) (and_then ! (load ! (from ! (fld ! refl (stop !))) (look_in ! 24 (sub ! 1 refl (whole !)))) (no_more !)))) (from ! (stop !)) (init ! 2 refl (tt, (tt, (record { fits = p₇.0.1.0 }, tt)))) $
         -- the local is lent, for a new lifetime
-        lft_new ! tt (λ α. move ! (23 ∷ []) $ use1 𝓛 (‵ ((mem S.the_row).own_at h l₁₀ zero)) (lies_in 𝓛 S.the_type S'.the_laws S'.the_plain l₁₀ h p₀) $
-        use1 𝓛 (later (some (λ (γ : GName). ‵ ((MutRef (named 0) (α ∷ []) S.the_row).own_val (x α l₁₀ γ).0 (vptr l₁₀ zero ∷ [])) ⊛ ‵ (flent (α ∷ []) (Body (mem S.the_row) l₁₀ zero γ))))) (lends_ref 𝓛 S.the_row (named 0) (α ∷ []) h l₁₀ zero) $ await ! tt $ pick ! (λ γ. split ! $
-        -- [what the `&mut` owns; the lender's part; the new token; _21 at 3; …; what frees _10 at 25; …; _0 at 44; what the rest owns at 46; the rest's tokens at 47]
-        move ! (0 ∷ 46 ∷ []) $ fjoin ! $ move ! (2 ∷ 46 ∷ []) $ join ! $ use2 𝓛 (raw ((Lent 𝓛 at_mem run).pre (to-lent α l₁₀ γ))) (goes-lent α l₁₀ γ) $
-        -- _11 = feed(_12, _2, _14, _16, _5, _6, _7, _18, _20)
-        calls_at ! fm (Lent 𝓛 at_mem run) known (to-lent α l₁₀ γ) (and_then ! (load ! (from ! (stop !)) (look ! 20 refl)) (and_then ! (load ! (from ! (stop !)) (look ! 39 refl)) (and_then ! (load ! (from ! (stop !)) (look ! 16 refl)) (and_then ! (load ! (from ! (stop !)) (look ! 12 refl)) (and_then ! (load ! (from ! (stop !)) (look ! 33 refl)) (and_then ! (load ! (from ! (stop !)) (look ! 31 refl)) (and_then ! (load ! (from ! (stop !)) (look ! 29 refl)) (and_then ! (load ! (from ! (stop !)) (look ! 8 refl)) (and_then ! (load ! (from ! (stop !)) (look ! 4 refl)) (no_more !)))))))))) (λ v.
-        use1 𝓛 (later (some (λ (r : Answer). ((‵ (flft (α ∷ []) full_share) ⊛ Toks) ⊛ ‵ ((E.the_row).own_val r (v ∷ []))) ⊛ raw (ensured 𝓛 lent.ended (lent.clauses 𝓛 at_mem run) (α ∷ [], κs) (x α l₁₀ γ) tt r)))) (id⊢ 𝓤 _) $ await ! tt $ pick ! (λ r. split ! $ split ! $ split ! $ move ! (3 ∷ []) $
-        use1 𝓛 (some (λ (ws : Lasts lent.ended (α ∷ [], κs) (x α l₁₀ γ)). ‵ (lasts lent.ended (α ∷ [], κs) (x α l₁₀ γ) ws) ⊛ Said r ws.0 ws.1)) (id⊢ 𝓤 _) $ pick ! (λ ws. split ! $ move ! (1 ∷ []) $
+        lft_new ! tt (λ α. move ! (23 ∷ []) $ use1 𝓛 (‵ ((mem S.the_row).own_at h l₉ zero)) (lies_in 𝓛 S.the_type S'.the_laws S'.the_plain l₉ h p₀) $
+        use1 𝓛 (later (some (λ (γ : GName). ‵ ((MutRef (named 0) (α ∷ []) S.the_row).own_val (x α l₉ γ).0 (vptr l₉ zero ∷ [])) ⊛ ‵ (flent (α ∷ []) (Body (mem S.the_row) l₉ zero γ))))) (lends_ref 𝓛 S.the_row (named 0) (α ∷ []) h l₉ zero) $ await ! tt $ pick ! (λ γ. split ! $
+        -- [what the `&mut` owns; the lender's part; the new token; _20 at 3; …; what frees _9 at 25; …; _0 at 42; what the rest owns at 44; the rest's tokens at 45]
+        move ! (0 ∷ 44 ∷ []) $ fjoin ! $ move ! (2 ∷ 44 ∷ []) $ join ! $ use2 𝓛 (raw ((Lent 𝓛 at_mem run).pre (to-lent α l₉ γ))) (goes-lent α l₉ γ) $
+        -- _10 = feed(_11, _2, _13, _15, _5, _6, _17, _19)
+        calls_at ! fm (Lent 𝓛 at_mem run) known (to-lent α l₉ γ) (and_then ! (load ! (from ! (stop !)) (look ! 20 refl)) (and_then ! (load ! (from ! (stop !)) (look ! 37 refl)) (and_then ! (load ! (from ! (stop !)) (look ! 16 refl)) (and_then ! (load ! (from ! (stop !)) (look ! 12 refl)) (and_then ! (load ! (from ! (stop !)) (look ! 31 refl)) (and_then ! (load ! (from ! (stop !)) (look ! 29 refl)) (and_then ! (load ! (from ! (stop !)) (look ! 8 refl)) (and_then ! (load ! (from ! (stop !)) (look ! 4 refl)) (no_more !))))))))) (λ v.
+        use1 𝓛 (later (some (λ (r : Answer). ((‵ (flft (α ∷ []) full_share) ⊛ Toks) ⊛ ‵ ((E.the_row).own_val r (v ∷ []))) ⊛ raw (ensured 𝓛 lent.ended (lent.clauses 𝓛 at_mem run) (α ∷ [], κs) (x α l₉ γ) tt r)))) (id⊢ 𝓤 _) $ await ! tt $ pick ! (λ r. split ! $ split ! $ split ! $ move ! (3 ∷ []) $
+        use1 𝓛 (some (λ (ws : Lasts lent.ended (α ∷ [], κs) (x α l₉ γ)). ‵ (lasts lent.ended (α ∷ [], κs) (x α l₉ γ) ws) ⊛ Said r ws.0 ws.1)) (id⊢ 𝓤 _) $ pick ! (λ ws. split ! $ move ! (1 ∷ []) $
         split ! $ heard ! _ (λ e₀. split ! $ heard ! _ (λ _. split ! $ heard ! _ (λ e₁. split ! $ heard ! _ (λ e₂. split ! $ heard ! _ (λ e₃. split ! $ heard ! _ (λ e₄. heard ! _ (λ e₅. fsplit ! $
-        -- [the state's last value; those of the rest; the new token; the rest's tokens; the answer; the lender's part; _21 at 6; …]. The lifetime is ended, and the local comes back
-        move ! (2 ∷ []) $ lft_end ! tt $ move ! (0 ∷ 5 ∷ 1 ∷ []) $ use3 𝓛 (later (‵ ((mem S.the_row).own_at ws.0 l₁₀ zero))) (ref_back 𝓛 S.the_row (α ∷ []) γ ws.0 l₁₀ zero) $ await ! tt $
-        use1 𝓛 (given (Is S.the_row ws.0 (LL.vals S.the_type S'.the_laws ws.0)) (‵ (fat full_share S'.mir l₁₀ zero (LL.val S.the_type S'.the_laws ws.0)))) (lies_out 𝓛 S.the_type S'.the_laws S'.the_plain l₁₀ ws.0) $ learn ! (λ is.
+        -- [the state's last value; those of the rest; the new token; the rest's tokens; the answer; the lender's part; _20 at 6; …]. The lifetime is ended, and the local comes back
+        move ! (2 ∷ []) $ lft_end ! tt $ move ! (0 ∷ 5 ∷ 1 ∷ []) $ use3 𝓛 (later (‵ ((mem S.the_row).own_at ws.0 l₉ zero))) (ref_back 𝓛 S.the_row (α ∷ []) γ ws.0 l₉ zero) $ await ! tt $
+        use1 𝓛 (given (Is S.the_row ws.0 (LL.vals S.the_type S'.the_laws ws.0)) (‵ (fat full_share S'.mir l₉ zero (LL.val S.the_type S'.the_laws ws.0)))) (lies_out 𝓛 S.the_type S'.the_laws S'.the_plain l₉ ws.0) $ learn ! (λ is.
         move ! (3 ∷ []) $ facts ! E.the_row (Is E.the_row) (shows 𝓛 E.the_row) r (v ∷ []) (λ isr. let got = LL.owes R.the_type R'.the_laws (both ws.0 r) (is, (EE.owes E.the_type E'.the_laws r (EE.owed E.the_type E'.the_laws r _ isr), tt)) in
-        -- [_10; the last values; the rest's tokens; _21 at 3; …; what frees _10 at 25; …; _0 at 44]
-        land ! (from ! (stop !)) (init ! 23 refl ((EE.lawful E.the_type E'.the_laws 𝓛 tt).typed r _ isr).0) $ rewrite ! 23 (λ (us : List Val). ‵ (fat full_share E'.mir l₁₁ zero (only us))) (EE.tells E.the_type E'.the_laws r (v ∷ []) isr) refl $
-        -- _21 = _10; _0 = After { _21, _11 }
+        -- [_9; the last values; the rest's tokens; _20 at 3; …; what frees _9 at 25; …; _0 at 42]
+        land ! (from ! (stop !)) (init ! 23 refl ((EE.lawful E.the_type E'.the_laws 𝓛 tt).typed r _ isr).0) $ rewrite ! 23 (λ (us : List Val). ‵ (fat full_share E'.mir l₁₀ zero (only us))) (EE.tells E.the_type E'.the_laws r (v ∷ []) isr) refl $
+        -- _20 = _9; _0 = After { _20, _10 }
         assigns ! (of_opd ! (load ! (from ! (stop !)) (look ! 0 refl))) (from ! (stop !)) (init ! 3 refl ((LL.lawful S.the_type S'.the_laws 𝓛).typed ws.0 _ is).0) $
-        assigns ! (agg ! (and_then ! (load ! (from ! (stop !)) (look ! 3 refl)) (and_then ! (load ! (from ! (stop !)) (look ! 23 refl)) (no_more !)))) (from ! (stop !)) (init ! 44 refl ((LL.lawful R.the_type R'.the_laws 𝓛).typed (both ws.0 r) _ got).0) $
-        move ! (0 ∷ 25 ∷ []) $ returns ! (look ! 44 refl) $
-        gone ! 44 refl refl $ gone ! 42 refl refl $ gone ! 40 refl refl $ gone ! 38 refl refl $ gone ! 36 refl refl $ gone ! 34 refl refl $ gone ! 32 refl refl $ gone ! 30 refl refl $ gone ! 28 refl refl $ gone ! 26 refl refl $ gone ! 0 refl refl $ gone ! 22 refl refl $ gone ! 20 refl refl $ gone ! 18 refl refl $ gone ! 16 refl refl $ gone ! 14 refl refl $ gone ! 12 refl refl $ gone ! 10 refl refl $ gone ! 8 refl refl $ gone ! 6 refl refl $ gone ! 4 refl refl $ gone ! 2 refl refl $ free0 ! $
-        by ! (exits r ws.0 ws.1 (promised r ws.0 ws.1 e₀ e₁ e₂ e₃ e₄ e₅) got)))))))))))))))))))))))))))))))))))))
+        assigns ! (agg ! (and_then ! (load ! (from ! (stop !)) (look ! 3 refl)) (and_then ! (load ! (from ! (stop !)) (look ! 23 refl)) (no_more !)))) (from ! (stop !)) (init ! 42 refl ((LL.lawful R.the_type R'.the_laws 𝓛).typed (both ws.0 r) _ got).0) $
+        move ! (0 ∷ 25 ∷ []) $ returns ! (look ! 42 refl) $
+        gone ! 42 refl refl $ gone ! 40 refl refl $ gone ! 38 refl refl $ gone ! 36 refl refl $ gone ! 34 refl refl $ gone ! 32 refl refl $ gone ! 30 refl refl $ gone ! 28 refl refl $ gone ! 26 refl refl $ gone ! 0 refl refl $ gone ! 22 refl refl $ gone ! 20 refl refl $ gone ! 18 refl refl $ gone ! 16 refl refl $ gone ! 14 refl refl $ gone ! 12 refl refl $ gone ! 10 refl refl $ gone ! 8 refl refl $ gone ! 6 refl refl $ gone ! 4 refl refl $ gone ! 2 refl refl $ free0 ! $
+        by ! (exits r ws.0 ws.1 (promised r ws.0 ws.1 e₀ e₁ e₂ e₃ e₄ e₅) got))))))))))))))))))))))))))))))))))))
 
 module _ {M : Type 1} {𝓤 : Ura M} (𝓛 : Logic 𝓤) (at_mem : Memory → SProp 𝓤) (run : Routine → Fun 𝓤) where
   open 𝓛 use {H}
 
   walks : (C : Calls 𝓤 H) (Λ : Loops 𝓤 H) → FmC 𝓤 H 𝓛.laws C → Triple 𝓤 (C #lent) (Lent 𝓛 at_mem run) → Walks 𝓛 through.ended stayed (WpFn 𝓤 H C Λ code.function) (through.clauses 𝓛 at_mem run)
   walks C Λ fm known = walked 𝓛 through.ended stayed (through.clauses 𝓛 at_mem run) (WpFn 𝓤 H C Λ code.function)
-      (λ κs. (LL.vals S.the_type S'.the_laws, (LL.vals P.the_type P'.the_laws, (shr_slice_vals, (shr_slice_vals, (uint_vals w32, (shr_slice_vals, (shr_slice_vals, (shr_slice_vals, (shr_slice_vals, tt))))))))))
-      (λ κs. (LL.tells S.the_type S'.the_laws, (LL.tells P.the_type P'.the_laws, (mut_slice_Tells (named 0) κs.0 i64, (mut_slice_Tells (named 1) κs.1.0 i64, (uint_Tells w32, (shr_slice_Tells (named 2) κs.1.1.0 i32, (shr_slice_Tells (named 3) κs.1.1.1.0 u8, (mut_slice_Tells (named 4) κs.1.1.1.1.0 i64, (mut_slice_Tells (named 5) κs.1.1.1.1.1.0 u32, tt))))))))))
-      (λ κs qs bounds a _ are. via 𝓤 _ (fst∗ 𝓤 _ (emp 𝓤)) (walk 𝓛 at_mem run κs qs a.0 a.1 C Λ fm known are.0 are.1.0 are.1.1.0 are.1.1.1.0 are.1.1.1.1.0 are.1.1.1.1.1.0 are.1.1.1.1.1.1.0 are.1.1.1.1.1.1.1.0 are.1.1.1.1.1.1.1.1.0))
+      (λ κs. (LL.vals S.the_type S'.the_laws, (LL.vals P.the_type P'.the_laws, (shr_slice_vals, (shr_slice_vals, (uint_vals w32, (shr_slice_vals, (shr_slice_vals, (shr_slice_vals, tt)))))))))
+      (λ κs. (LL.tells S.the_type S'.the_laws, (LL.tells P.the_type P'.the_laws, (mut_slice_Tells (named 0) κs.0 i64, (mut_slice_Tells (named 1) κs.1.0 i64, (uint_Tells w32, (shr_slice_Tells (named 2) κs.1.1.0 i32, (mut_slice_Tells (named 3) κs.1.1.1.0 i64, (mut_slice_Tells (named 4) κs.1.1.1.1.0 u32, tt)))))))))
+      (λ κs qs bounds a _ are. via 𝓤 _ (fst∗ 𝓤 _ (emp 𝓤)) (walk 𝓛 at_mem run κs qs a.0 a.1 C Λ fm known are.0 are.1.0 are.1.1.0 are.1.1.1.0 are.1.1.1.1.0 are.1.1.1.1.1.0 are.1.1.1.1.1.1.0 are.1.1.1.1.1.1.1.0))
 
 meets : {M : Type 1} {𝓤 : Ura M} (𝓛 : Logic 𝓤) (at_mem : Memory → SProp 𝓤) (run : Routine → Fun 𝓤) (𝓣 : Tables 𝓤 𝓛.H)
     → Triple 𝓤 (𝓣.C #lent) (Lent 𝓛 at_mem run) → Meets 𝓛 through.signature (WpFn 𝓤 𝓛.H 𝓣.C 𝓣.Λ code.function) (through.spec 𝓛 at_mem run)
-meets {𝓤 = 𝓤} 𝓛 at_mem run 𝓣 known = walk_Meets 𝓛 through.ended stayed (all-passed-go 𝓛 6 (through.ended).signature.params (through.ended).kept) (through.clauses 𝓛 at_mem run) (WpFn 𝓤 𝓛.H 𝓣.C 𝓣.Λ code.function) (WpFn-mono 𝓤 𝓛.H 𝓛.laws 𝓣 code.function) (walks 𝓛 at_mem run 𝓣.C 𝓣.Λ (fm_of 𝓤 𝓛.H 𝓛.laws 𝓣) known)
+meets {𝓤 = 𝓤} 𝓛 at_mem run 𝓣 known = walk_Meets 𝓛 through.ended stayed (all-passed-go 𝓛 5 (through.ended).signature.params (through.ended).kept) (through.clauses 𝓛 at_mem run) (WpFn 𝓤 𝓛.H 𝓣.C 𝓣.Λ code.function) (WpFn-mono 𝓤 𝓛.H 𝓛.laws 𝓣 code.function) (walks 𝓛 at_mem run 𝓣.C 𝓣.Λ (fm_of 𝓤 𝓛.H 𝓛.laws 𝓣) known)
 
 pub feed-through-spec : {M : Type 1} → stated.statement M
 unfolding code.routine tables_of

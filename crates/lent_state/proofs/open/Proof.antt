@@ -42,7 +42,7 @@ use denote.Triple.Entry.{alive, on_entry}
 use denote.Triple.Spec.{Meets, triple_of}
 use denote.Triple.Table.{entered, cited}
 use denote.Triple.Walked.{Stays, stay_ref, walk_of, AllGo, Goes-ref, Walks, walked, walk_Meets}
-use Rattle.monitor.specs.Open.{answer_number, open_number, open_first, open_second}
+use Rattle.monitor.specs.Open.{answer_number, open_answer, open_number, open_state, open_first, open_second}
 use Rattle.feed.specs.After.{opened_of}
 use Rattle.pattern.specs.declared.Pattern.{Pattern}
 use Rattle.pattern.specs.contracts.Pattern as P
@@ -188,7 +188,7 @@ module _ {M : Type 1} {𝓤 : Ura M} (𝓛 : Logic 𝓤) (at_mem : Memory → SP
         -- _7 = _6.0; *_1 = _7; _0 = _6.1. A field's type and its first byte are given: antt would write them out at length
         assigns ! (of_opd ! (load ! (from ! (fld ! {τ = S'.mir} {d = 0} refl (stop !))) (look_in ! 16 {τ = S'.mir} (sub ! 0 {τ = S'.mir} {d = 0} refl (whole !))))) (from ! (stop !)) (init ! 14 refl ((LL.lawful S.the_type S'.the_laws 𝓛).typed r.state _ new.0).0) $
         assigns ! (of_opd ! (load ! (from ! (stop !)) (look ! 14 refl))) (from ! (hop ! (look ! 26 refl) (stop !))) (store_raw ! 2 refl ((LL.lawful S.the_type S'.the_laws 𝓛).typed r.state _ new.0).0) $
-        assigns ! (of_opd ! (load ! (from ! (fld ! {τ = E'.mir} {d = 44} refl (stop !))) (look_in ! 16 {τ = E'.mir} (sub ! 1 {τ = E'.mir} {d = 44} refl (whole !))))) (from ! (stop !)) (init ! 28 refl ((EE.lawful E.the_type E'.the_laws 𝓛 tt).typed r.answer _ new.1.0).0) $
+        assigns ! (of_opd ! (load ! (from ! (fld ! {τ = E'.mir} {d = 36} refl (stop !))) (look_in ! 16 {τ = E'.mir} (sub ! 1 {τ = E'.mir} {d = 36} refl (whole !))))) (from ! (stop !)) (init ! 28 refl ((EE.lawful E.the_type E'.the_laws 𝓛 tt).typed r.answer _ new.1.0).0) $
         owned ! S.the_row (Is S.the_row) (LL.makes S.the_type S'.the_plain 𝓛) r.state _ new.0 $ move ! (3 ∷ 0 ∷ 4 ∷ 5 ∷ 6 ∷ []) $ closes ! tt S.the_row r.state (LL.vals S.the_type S'.the_laws r.state) b o $
         -- [obs; the borrow; its token; the last values; the rest's tokens; _11 at 5; …; _0 at 27]
         returns ! (look ! 27 refl) $ gone ! 27 refl refl $ gone ! 25 refl refl $ gone ! 23 refl refl $ gone ! 21 refl refl $ gone ! 19 refl refl $ gone ! 17 refl refl $ gone ! 15 refl refl $ gone ! 13 refl refl $ gone ! 11 refl refl $ gone ! 9 refl refl $ gone ! 7 refl refl $ gone ! 5 refl refl $ free0 ! $

@@ -7,7 +7,6 @@ use lib.Seq.{length-take-le}
 use mir.Syntax.{w64}
 use borrow.Author.Rules.{rules}
 use Rattle.integers.proofs.Casts.{read_back}
-use Rattle.record.specs.Reading.{readings}
 use Rattle.record.specs.Run.{steps_of}
 use Rattle.price.specs.Price.{scored}
 use Rattle.price_runs.specs.Stand.{outcome, score_from}
@@ -23,14 +22,14 @@ one-stay : (s : tie.Start) → length (take 1 s.args.stays.now) ≡ 1
 one-stay s = length-take-le 1 s.args.stays.now (let a = s.requires.1.0 in let b = s.requires.1.1 in omega arith)
 
 slice-aggregate-run : tie.Need-slice-aggregate-run
-slice-aggregate-run c = sym (one-edge c.before.before.before.before.before)
+slice-aggregate-run c = sym (one-edge c.before.before.before.before)
 
 slice-aggregate-run-2 : tie.Need-slice-aggregate-run-2
-slice-aggregate-run-2 c = sym (one-stay c.before.before.before.before.before.before)
+slice-aggregate-run-2 c = sym (one-stay c.before.before.before.before.before)
 
 run-requires : tie.Need-run-requires
 run-requires c κs =
-    let s = c.before.before.before.before.before.before in
+    let s = c.before.before.before.before.before in
     (s.requires.0, one-edge s ∙ sym (one-stay s))
 
 sub-run : tie.Need-overflow-sub-run
@@ -60,7 +59,7 @@ answer-requires c κs = search rules
 returns : tie.Need-returns
 unfolding outcome score_from
 returns c =
-    let s = c.before.before.before.before.before.before.before.before.before.before.before.before in
+    let s = c.before.before.before.before.before.before.before.before.before.before.before in
     let es = s.args.edges.now in
     let ss = s.args.stays.now in
     let first = c.before.before.before.before.before.run in
@@ -72,7 +71,7 @@ returns c =
     let all-steps : one ++ (rest ++ []) ≡ steps_of es ss = ap (◌++◌ one) (append-nil rest) ∙ steps_cut 1 es ss s.requires.1.0 in
     c.answer.ensures
     ∙ rw (read_back w64 _ (record { sfits = fits }))
-    (ap scored (others ∙ first.ensures.same (rest ++ []) ∙ ap (outcome s.args.p s.args.durations.now (readings s.args.values.now s.args.read.now) s.args.s) all-steps))
+    (ap scored (others ∙ first.ensures.same (rest ++ []) ∙ ap (outcome s.args.p s.args.durations.now s.args.values.now s.args.s) all-steps))
 
 pub score-from-spec : {M : Type 1} → statement M
 score-from-spec =

@@ -51,13 +51,13 @@ mul-e c = search rules
 
 element-copy-out-e : tie.Need-element-copy-out-e
 element-copy-out-e c =
-    let s = c.before.before.before.before.before.before.before in
+    let s = c.before.before.before.before.before.before in
     (edge-at-sound s.args.t1 s.args.edge s.requires.sound c.if3.true).0
 
 grown-requires : tie.Need-grown-requires
 grown-requires c κs =
-    let s = c.before.before.before.before.before.before.before.before in
-    room s.args.t1 s.args.durations.now s.args.values.now s.args.read.now s.args.s s.requires s.args.stay (omega (arith, c.before.before.if2.true))
+    let s = c.before.before.before.before.before.before.before in
+    room s.args.t1 s.args.durations.now s.args.values.now s.args.s s.requires s.args.stay (omega (arith, c.before.before.if2.true))
 
 after-resets-requires : tie.Need-after-resets-requires
 after-resets-requires c κs = search rules
@@ -67,7 +67,7 @@ can-leave-requires c κs = search rules
 
 take-step-requires : tie.Need-take-step-requires
 take-step-requires c κs =
-    let s = c.before.before.before.before.before.before.before.before.before.before.before.before in
+    let s = c.before.before.before.before.before.before.before.before.before.before.before in
     let known = c.before.before.before.before.before.if3.true in
     let ticked = c.before.before.before.grown in
     let can = tried s known _ ticked.result c.before.can_leave_lem.result ticked.ensures c.before.can_leave_lem.ensures ∙ c.if4.true in
@@ -78,13 +78,13 @@ returns c = search rules
 
 returns-2 : tie.Need-returns-2
 returns-2 c =
-    let s = c.before.before.before.before.before in
+    let s = c.before.before.before.before in
     let x : Step = record { edge = s.args.edge; stay = s.args.stay } in
     rw (reads-worth s)
     (⊎_elim
-    (λ w. not_able s.args.t1 s.args.durations.now s.args.values.now s.args.read.now s.args.s s.requires x (tried s w.3.taken _ w.5.result w.7.result w.5.ensures w.7.ensures ∙ w.8.left))
-    (⊎_elim (λ w. not_able s.args.t1 s.args.durations.now s.args.values.now s.args.read.now s.args.s s.requires x (no_edge_lem s.args.t1 s.args.s.place s.args.s.clocks x w.3.left))
-    (⊎_elim (λ w. not-fitting s.args.t1 s.args.durations.now s.args.values.now s.args.read.now s.args.s s.requires x w.2.left) (λ w. not_going s.args.t1 s.args.durations.now s.args.values.now s.args.read.now s.args.s s.requires x w.left)))
+    (λ w. not_able s.args.t1 s.args.durations.now s.args.values.now s.args.s s.requires x (tried s w.3.taken _ w.5.result w.7.result w.5.ensures w.7.ensures ∙ w.8.left))
+    (⊎_elim (λ w. not_able s.args.t1 s.args.durations.now s.args.values.now s.args.s s.requires x (no_edge_lem s.args.t1 s.args.s.place s.args.s.clocks x w.3.left))
+    (⊎_elim (λ w. not-fitting s.args.t1 s.args.durations.now s.args.values.now s.args.s s.requires x w.2.left) (λ w. not_going s.args.t1 s.args.durations.now s.args.values.now s.args.s s.requires x w.left)))
     c.before.if1.branch)
 
 pub step_spec : {M : Type 1} → statement M

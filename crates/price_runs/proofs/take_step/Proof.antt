@@ -47,7 +47,7 @@ edge-is : (s : tie.Start) (d : Edge) → get_or s.args.t1.edges s.args.edge d �
 edge-is s d = let e = (parts s.args.t1 s.requires.0.sound).edges.long in get_d_any s.args.t1.edges s.args.edge d no_edge (omega (arith, in_array s))
 
 element-copy-out-e : tie.Need-element-copy-out-e
-element-copy-out-e c = in_array c.before.before
+element-copy-out-e c = in_array c.before
 
 cast-i : tie.Need-overflow-cast-i
 cast-i c = search rules
@@ -57,7 +57,7 @@ mul-l c = search rules
 
 element-copy-out-l : tie.Need-element-copy-out-l
 element-copy-out-l c =
-    let s = c.before.before.before.before in
+    let s = c.before.before.before in
     let few = (parts s.args.t1 s.requires.0.sound).places.few in
     rw (edge-is s _) (omega (arith, (ends s).0, (ends s).1))
 
@@ -72,22 +72,22 @@ reads-worth s =
 
 stay-in-requires : tie.Need-stay-in-requires
 stay-in-requires c κs =
-    let s = c.before.before.before.before.before.before in
+    let s = c.before.before.before.before.before in
     rw (edge-is s _, reads-worth s)
-    (walks s.args.t1 s.args.durations.now s.args.values.now s.args.read.now s.args.s s.requires.0 _ _ s.args.stay (place_is s _ _ (omega (arith, (ends s).0, (ends s).1))) (omega (arith, (ends s).0, (ends s).1)) s.requires.1.0.fits)
+    (walks s.args.t1 s.args.durations.now s.args.values.now s.args.s s.requires.0 _ _ s.args.stay (place_is s _ _ (omega (arith, (ends s).0, (ends s).1))) (omega (arith, (ends s).0, (ends s).1)) s.requires.1.0.fits)
 
-sub-t25 : tie.Need-overflow-sub-t25
-sub-t25 c = search rules
+sub-t24 : tie.Need-overflow-sub-t24
+sub-t24 c = search rules
 
 returns : tie.Need-returns
 returns c =
-    let s = c.before.before.before.before.before.before.before.before.before in
+    let s = c.before.before.before.before.before.before.before.before in
     let there = c.before.before.stay-in in
     let x : Step = record { edge = s.args.edge; stay = s.args.stay } in
     let stayed = rw (edge-is s _, place_is s (edge_at s.args.t1 s.args.edge).from _ (ends s).0, reads-worth s) at there.ensures in
     let small : nat_abs there.result.worth ≤ 2 ^ 60 = let h = s.requires.0.size in let f = s.requires.1.0.fits in omega (arith, stayed.size) in
     rw (read_back w64 there.result.worth (abs_fits_64 there.result.worth (2 ^ 60) small (omega arith)), s.requires.1.1, edge-is s _)
-    (made s.args.t1 s.args.durations.now s.args.values.now s.args.read.now s.args.s s.requires.0 x there.result s.requires.1.0 stayed)
+    (made s.args.t1 s.args.durations.now s.args.values.now s.args.s s.requires.0 x there.result s.requires.1.0 stayed)
 
 pub take-step-spec : {M : Type 1} → statement M
 take-step-spec =
@@ -100,5 +100,5 @@ take-step-spec =
     element-copy-out-l
     cast-stay-in
     stay-in-requires
-    sub-t25
+    sub-t24
     returns)

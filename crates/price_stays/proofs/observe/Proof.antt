@@ -1,27 +1,22 @@
 -- `observe` combines the worth of the piece, unless it joins.
-use Rattle.record.specs.Reading.{readings}
 use Rattle.record.specs.Record.{sample_at}
-use Rattle.record.specs.Worth.{worth_in}
-use native.Mathlib.Omega.{arith}
-use Prim.Native.Nat.{◌+◌, ◌-◌, ◌*◌}
+use Rattle.pattern.specs.Distance.{place_worth}
 use Rattle.integers.proofs.Casts.{read_back}
 use mir.Val.{to_z, of_z}
 use mir.Syntax.{w64}
-use mathlib.Core.Path.{◌≡◌, ◌∙◌}
+use mathlib.Core.Path.{◌≡◌, ap, ◌∙◌}
 use borrow.Author.Rules.{rules}
-use Rattle.record.proofs.ReadingLaws.{sample-values}
+use Rattle.record.proofs.RecordLaws.{part-sample}
 use Rattle.price_stays.proofs.observe.Statement.{statement}
 use Rattle.price_stays.proofs.observe.Tie as tie
 
--- the worth of the piece, as the machine reads it
 reads-place-worth : (c : tie.After-place-worth)
-    → (let a = c.before.before.before.before.before.args in to_z w64 (of_z w64 c.place-worth.result) ≡ worth_in a.w a.l (sample_at a.channels (readings a.values.now a.read.now) a.piece))
+    → to_z w64 (of_z w64 c.place-worth.result) ≡ place_worth c.before.before.before.before.args.w c.before.before.before.before.args.l (sample_at c.before.before.before.before.args.channels c.before.before.before.before.args.values.now c.before.before.before.before.args.piece)
 reads-place-worth c =
-    let a = c.before.before.before.before.before.args in
-    let at-is : a.piece * a.channels + a.channels - a.piece * a.channels ≡ a.channels = omega arith in
+    let a = c.before.before.before.before.args in
     read_back w64 c.place-worth.result (record { sfits = c.place-worth.type-inv })
     ∙ c.place-worth.ensures
-    ∙ rw (at-is, sample-values a.channels a.piece a.values.now a.read.now c.before.before.before.before.before.requires.lent)
+    ∙ ap (place_worth a.w a.l) (part-sample a.channels a.piece a.values.now)
 
 joins-requires : tie.Need-joins-requires
 joins-requires c κs = search rules
@@ -49,17 +44,17 @@ place-worth-requires c κs = search rules
 
 combine-requires : tie.Need-combine-requires
 combine-requires c κs =
-    let s = c.before.before.before.before.before in
+    let s = c.before.before.before.before in
     rw (read_back w64 s.args.worth s.ranges.worth, reads-place-worth c) s.requires.fits
 
 returns : tie.Need-returns
 returns c =
-    let s = c.before.before.before in
+    let s = c.before.before in
     rw (read_back w64 s.args.worth s.ranges.worth, ← c.before.joins.ensures, c.if1.true)
 
 returns-2 : tie.Need-returns-2
 returns-2 c =
-    let s = c.before.before.before.before.before.before in
+    let s = c.before.before.before.before.before in
     let j = c.before.before.before.before.joins in
     read_back w64 c.combine.result (record { sfits = c.combine.type-inv })
     ∙ c.combine.ensures

@@ -28,9 +28,6 @@ mul-value c = search rules
 element-set-from-value : tie.Need-element-set-from-value
 element-set-from-value c = search rules
 
-element-write-r : tie.Need-element-write-r
-element-write-r c = search rules
-
 returns : tie.Need-returns
 unfolding add_value
 returns c =
@@ -38,13 +35,7 @@ returns c =
     let s = a.s in
     let v = to_z-of_z c.before.before.before.before.before.ranges.value in
     let inrange : c.before.before.before.both.result ≡ s.inrange && value_in_range a.value = c.before.before.before.both.ensures ∙ ap (λ b. s.inrange && b) (c.before.before.before.before.in-range.ensures ∙ ap value_in_range v) in
-    let room = sym (lt-ltb s.count 8 c.if1.true) in
-    λ i. record {
-      values = cond (room i) (set s.values s.count (v i)) s.values;
-      count = c.before.counted.ensures i;
-      inrange = inrange i;
-      read = cond (room i) (set s.read s.count a.read) s.read;
-    }
+    λ i. record { values = cond (sym (lt-ltb s.count 8 c.if1.true) i) (set s.values s.count (v i)) s.values; count = c.before.counted.ensures i; inrange = inrange i }
 
 returns-2 : tie.Need-returns-2
 unfolding add_value
@@ -53,13 +44,7 @@ returns-2 c =
     let s = a.s in
     let v = to_z-of_z c.before.before.before.before.before.ranges.value in
     let inrange : c.before.before.before.both.result ≡ s.inrange && value_in_range a.value = c.before.before.before.both.ensures ∙ ap (λ b. s.inrange && b) (c.before.before.before.before.in-range.ensures ∙ ap value_in_range v) in
-    let full = sym (le-ltb s.count 8 c.if1.false) in
-    λ i. record {
-      values = cond (full i) (set s.values s.count a.value) s.values;
-      count = c.before.counted.ensures i;
-      inrange = inrange i;
-      read = cond (full i) (set s.read s.count a.read) s.read;
-    }
+    λ i. record { values = cond (sym (le-ltb s.count 8 c.if1.false) i) (set s.values s.count a.value) s.values; count = c.before.counted.ensures i; inrange = inrange i }
 
 pub add-value-spec : {M : Type 1} → statement M
 add-value-spec =
@@ -71,6 +56,5 @@ add-value-spec =
     counted-requires
     mul-value
     element-set-from-value
-    element-write-r
     returns
     returns-2)

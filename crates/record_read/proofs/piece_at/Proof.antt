@@ -8,7 +8,7 @@ line-from-requires : tie.Need-line-from-requires
 line-from-requires c κs = search rules
 
 returns : tie.Need-returns
-returns c = piece_of_line _ _ c.before.before.before.line-from.result c.before.before.before.line-from.ensures
+returns c = piece_of_line _ _ c.before.before.line-from.result c.before.before.line-from.ensures
 
 pub piece-at-spec : {M : Type 1} → statement M
 piece-at-spec = tie.close (tie.spec line-from-requires returns)

@@ -1,7 +1,7 @@
--- `value_at` meets its contract: after the space an integer, or else `?`.
+-- `value_at` meets its contract.
 use mathlib.Core.Path.{sym, ◌∙◌}
 use Rattle.text_scan.proofs.Composed.{word-within}
-use Rattle.record_read.proofs.ValuesLaws.{value_no_space, value-is, value-lost}
+use Rattle.record_read.proofs.ValuesLaws.{value_no_space, value-is}
 use borrow.Author.Rules.{rules}
 use Rattle.record_read.proofs.value_at.Statement.{statement}
 use Rattle.record_read.proofs.value_at.Tie as tie
@@ -24,20 +24,8 @@ returns c = value_no_space _ _ (sym c.enum_told.given.1 ∙ c.before.before.word
 integer-at-requires : tie.Need-integer-at-requires
 integer-at-requires c κs = word-within _ _ _ _ (sym c.before.start.given.1 ∙ c.before.before.before.word_at.ensures)
 
-enum-known-v : tie.Need-enum-known-v
-enum-known-v c = search rules
-
-enum-told-2 : tie.Need-enum-told-2
-enum-told-2 c = search rules
-
-lost-at-requires : tie.Need-lost-at-requires
-lost-at-requires c κs = word-within _ _ _ _ (sym c.before.before.before.before.start.given.1 ∙ c.before.before.before.before.before.before.word_at.ensures)
-
 returns-2 : tie.Need-returns-2
-returns-2 c = value-is _ _ _ (sym c.before.before.before.before.before.start.given.1 ∙ c.before.before.before.before.before.before.before.word_at.ensures) _ _ (sym c.before.v.given.1 ∙ c.before.before.before.integer-at.ensures)
-
-returns-3 : tie.Need-returns-3
-returns-3 c = value-lost _ _ _ (sym c.before.before.before.before.before.start.given.1 ∙ c.before.before.before.before.before.before.before.word_at.ensures) _ (sym c.before.enum-told2.given.1 ∙ c.before.before.before.integer-at.ensures) c.lost-at.ensures
+returns-2 c = value-is _ _ _ _ (sym c.before.before.start.given.1 ∙ c.before.before.before.before.word_at.ensures) c.integer-at.ensures
 
 pub value-at-spec : {M : Type 1} → statement M
 value-at-spec =
@@ -49,8 +37,4 @@ value-at-spec =
     enum_told
     returns
     integer-at-requires
-    enum-known-v
-    enum-told-2
-    lost-at-requires
-    returns-2
-    returns-3)
+    returns-2)

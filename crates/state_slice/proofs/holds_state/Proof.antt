@@ -11,7 +11,7 @@ use Rattle.state_slice.proofs.holds_state.Tie as tie
 
 returns : tie.Need-returns
 unfolding holds_state
-returns c = rw (lt-leb 17 _ c.if1.true)
+returns c = rw (lt-leb 9 _ c.if1.true)
 
 shared-slice-copy-out-ticks-fit : tie.Need-shared-slice-copy-out-ticks-fit
 shared-slice-copy-out-ticks-fit c = search rules
@@ -38,7 +38,7 @@ returns-2 : tie.Need-returns-2
 unfolding holds_state
 returns-2 c =
     let es = c.before.before.before.before.before.args.entries.now in
-    rw (c.values-fit.ensures, c.before.before.ticks-fit.ensures, read_back w64 (get_or es 0 (pos 0)) (record { sfits = c.before.before.before.ticks-fit-arg.given }), le-leb 17 (length es) c.before.before.before.before.if1.false)
+    rw (c.values-fit.ensures, c.before.before.ticks-fit.ensures, read_back w64 (get_or es 0 (pos 0)) (record { sfits = c.before.before.before.ticks-fit-arg.given }), le-leb 9 (length es) c.before.before.before.before.if1.false)
 
 pub holds-state-spec : {M : Type 1} → statement M
 holds-state-spec =

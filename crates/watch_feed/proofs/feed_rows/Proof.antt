@@ -31,7 +31,7 @@ slice-aggregate-put-reports-2 c = search rules
 
 put-reports-requires : tie.Need-put-reports-requires
 put-reports-requires c κs =
-    let st = c.before.before.before.before.before.before.before.before.before.before.before.before.before.before.before.before.before.before.before in
+    let st = c.before.before.before.before.before.before.before.before.before.before.before.before.before.before.before.before.before.before in
     let o = c.before.before.before.before.before.before.before.before.before.before.feed-through.ensures in
     (search rules, search rules, search rules, λ i l. rw o.1.1.1.1 (st.requires.2 i l))
 

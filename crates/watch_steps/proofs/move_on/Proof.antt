@@ -3,6 +3,7 @@ use native.Mathlib.Omega.{arith}
 use mathlib.Core.Path.{ap}
 use borrow.Author.Rules.{rules}
 use borrow.Author.Tests.{ne_eqb, lt-ltb, le-ltb}
+use lib.Dec.{eqb, ltb}
 use lib.ListN.{length}
 use Rattle.watch_steps.specs.Steps.{cursor_at, moved_on}
 use Rattle.watch_steps.proofs.move_on.Statement.{statement}
@@ -14,8 +15,8 @@ piece-at-requires c κs = search rules
 returns : tie.Need-returns
 unfolding moved_on
 returns c =
-    let a = c.before.before.before.before.before.before.before.args in
-    rw (c.before.before.before.before.if1.true, lt-ltb a.k.at (length a.text.now) c.before.before.before.if2.true) (ap cursor_at c.before.before.piece-at.ensures)
+    let a = c.before.before.before.before.before.before.args in
+    rw (c.before.before.before.if1.true, lt-ltb a.k.at (length a.text.now) c.before.before.if2.true) (ap cursor_at c.before.piece-at.ensures)
 
 returns-2 : tie.Need-returns-2
 unfolding moved_on

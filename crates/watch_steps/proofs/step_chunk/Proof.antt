@@ -1,18 +1,16 @@
 -- A chunk fed and its lines put.
+use Prim.Native.Nat.{◌-◌}
 use native.Mathlib.Omega.{arith}
-use mathlib.Core.Path.{◌≡◌, sym}
+use mathlib.Core.Path.{◌≡◌, sym, ap}
 use borrow.Author.Rules.{rules}
 use lib.Seq.{length-take-le}
-use lib.ListN.{length, length-map}
+use lib.ListN.{length, take, length-map}
 use Rattle.watch_steps.proofs.step_chunk.Statement.{statement}
 use Rattle.watch_steps.proofs.step_chunk.Tie as tie
 
 -- an array has as many elements as its type says
 eight : (c : tie.Start) → length c.args.k.values ≡ 8
 eight c = simp length-map at c.well-formed.1.0.1.1.1.1.0.1.0.1
-
-eight-read : (c : tie.Start) → length c.args.k.read ≡ 8
-eight-read c = simp length-map at c.well-formed.1.0.1.1.1.1.1.0.1.0.1
 
 least-requires : tie.Need-least-requires
 least-requires c κs = search rules
@@ -21,39 +19,23 @@ cast-n : tie.Need-overflow-cast-n
 cast-n c = search rules
 
 array-share-prefix-values : tie.Need-array-share-prefix-values
-array-share-prefix-values c =
-    let st = c.before.before.before.before.before in
-    let e = eight st in
-    omega (arith, st.requires.0)
+array-share-prefix-values c = let g = c.before.before.before.before.well-formed.1.0 in let e = eight c.before.before.before.before in omega (arith, c.before.before.before.before.requires.0)
 
 slice-aggregate-feed-rows : tie.Need-slice-aggregate-feed-rows
 slice-aggregate-feed-rows c =
-    let st = c.before.before.before.before.before.before in
+    let st = c.before.before.before.before.before in
     let e = eight st in
     let h = st.requires.0 in
     sym (length-take-le st.args.p.channels st.args.k.values (omega arith))
 
-array-share-prefix-read : tie.Need-array-share-prefix-read
-array-share-prefix-read c =
-    let st = c.before.before.before.before.before.before in
-    let e = eight-read st in
-    omega (arith, st.requires.0)
-
-slice-aggregate-feed-rows-2 : tie.Need-slice-aggregate-feed-rows-2
-slice-aggregate-feed-rows-2 c =
-    let st = c.before.before.before.before.before.before.before in
-    let e = eight-read st in
-    let h = st.requires.0 in
-    sym (length-take-le st.args.p.channels st.args.k.read (omega arith))
-
 feed-rows-requires : tie.Need-feed-rows-requires
 feed-rows-requires c κs =
-    let st = c.before.before.before.before.before.before.before.before.before.before in
-    let e = c.before.before.before.before.before.before.before.before.least.ensures in
+    let st = c.before.before.before.before.before.before.before.before in
+    let e = c.before.before.before.before.before.before.least.ensures in
     (omega arith, rw e st.requires.1, rw e st.requires.2)
 
-sub-t25 : tie.Need-overflow-sub-t25
-sub-t25 c = search rules
+sub-t22 : tie.Need-overflow-sub-t22
+sub-t22 c = search rules
 
 same_length : tie.Need-same-length
 same_length c = search rules
@@ -66,7 +48,7 @@ same-length-3 c = search rules
 
 returns : tie.Need-returns
 returns c =
-    let e = c.before.before.before.before.before.before.before.before.before.before.before.before.before.before.before.least.ensures in
+    let e = c.before.before.before.before.before.before.before.before.before.before.before.before.before.least.ensures in
     let o = rw e at c.before.before.before.before.before.before.feed-rows.ensures in
     record { watch = rw e; state = o.0; choice = o.1.0; first = o.1.1.0; second = o.1.1.1.0; put = o.1.1.1.1.0; few = o.1.1.1.1.1 }
 
@@ -78,10 +60,8 @@ step-chunk-spec =
     cast-n
     array-share-prefix-values
     slice-aggregate-feed-rows
-    array-share-prefix-read
-    slice-aggregate-feed-rows-2
     feed-rows-requires
-    sub-t25
+    sub-t22
     same_length
     same-length-2
     same-length-3

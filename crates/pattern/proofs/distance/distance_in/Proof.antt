@@ -8,8 +8,8 @@ use borrow.Author.Rules.{rules}
 use Rattle.pattern.proofs.distance.distance_in.Statement.{statement}
 use Rattle.pattern.proofs.distance.distance_in.Tie as tie
 
-value-at-requires : tie.Need-value-at-requires
-value-at-requires c κs = search rules
+reading-requires : tie.Need-reading-requires
+reading-requires c κs = search rules
 
 distance-requires : tie.Need-distance-requires
 distance-requires c κs = search rules
@@ -18,13 +18,13 @@ returns : tie.Need-returns
 returns c =
     let s = c.before.before in
     let t = s.args.t in
-    let v = c.before.value-at.result in
-    let v-fits : SFits w32 v = record { sfits = c.before.value-at.type-inv } in
+    let v = c.before.reading.result in
+    let v-fits : SFits w32 v = record { sfits = c.before.reading.type-inv } in
     let b-fits : SFits w32 t.bound = record { sfits = s.well-formed.0.1.1.1.1.1.0.1 } in
     let h_fits : SFits w32 t.high = record { sfits = s.well-formed.0.1.1.1.1.1.1.0.1 } in
     let r-is : c.distance.result ≡ distance_of t v = c.distance.ensures ∙ ap (distance_of t) (to_z-of_z v-fits) in
     let back : to_z w64 (of_z w64 c.distance.result) ≡ c.distance.result = to_z-of_z (record { sfits = c.distance.type-inv }) in
-    rw (back, r-is) (record { is = ap (distance_of t) c.before.value-at.ensures; size = distance_size t v v-fits b-fits h_fits })
+    rw (back, r-is) (record { is = ap (distance_of t) c.before.reading.ensures; size = distance_size t v v-fits b-fits h_fits })
 
 pub distance-in-spec : {M : Type 1} → statement M
-distance-in-spec = tie.close (tie.spec value-at-requires distance-requires returns)
+distance-in-spec = tie.close (tie.spec reading-requires distance-requires returns)

@@ -17,10 +17,10 @@ use Rattle.pattern.proofs.distance.place_worth.Statement.{statement}
 use Rattle.pattern.proofs.distance.place_worth.Tie as tie
 
 abbrev invariant-loop : tie.invariant-loop
-invariant-loop w values l n worth₀ i₀ worth i = (i ≤ n) × ((worth ≡ of_z w64 (worth_to w values l.tests i)) × (nat_abs (worth_to w values l.tests i) ≤ 2000001 + 2 ^ 32 * i))
+invariant-loop w sample l n worth₀ i₀ worth i = (i ≤ n) × ((worth ≡ of_z w64 (worth_to w sample l.tests i)) × (nat_abs (worth_to w sample l.tests i) ≤ 2000001 + 2 ^ 32 * i))
 
 abbrev decreases-loop : tie.decreases-loop
-decreases-loop w values l n worth₀ i₀ worth i = n - i
+decreases-loop w sample l n worth₀ i₀ worth i = n - i
 
 -- an array has as many elements as its type says
 four : (c : tie.Start invariant-loop decreases-loop) → length c.args.t2.tests ≡ 4
@@ -30,7 +30,7 @@ four c = simp length-map at c.well-formed.1.0.1.1.1.0.1.0.1
 so_far : tie.After-distance-in invariant-loop decreases-loop → ℤ
 so_far c =
     let a = c.before.before.before.before.before.before.args in
-    worth_to a.w a.values.now a.t2.tests c.before.before.before.loop.i
+    worth_to a.w a.sample.now a.t2.tests c.before.before.before.loop.i
 
 reads-worth : (c : tie.After-distance-in invariant-loop decreases-loop) → to_z w64 c.before.before.before.loop.worth ≡ so_far c
 unfolding so_far
@@ -59,7 +59,7 @@ unit-requires c κs = tt
 loop-holds : tie.Need-loop-init invariant-loop decreases-loop
 loop-holds c =
     let a = c.before.before.args in
-    (omega arith, (ap (of_z w64) (c.unit.ensures ∙ worth-none a.w a.values.now a.t2.tests), rw (← worth-none a.w a.values.now a.t2.tests) (omega (arith, unit_size a.w))))
+    (omega arith, (ap (of_z w64) (c.unit.ensures ∙ worth-none a.w a.sample.now a.t2.tests), rw (← worth-none a.w a.sample.now a.t2.tests) (omega (arith, unit_size a.w))))
 
 mul-t : tie.Need-overflow-mul-t invariant-loop decreases-loop
 mul-t c = omega arith
@@ -88,8 +88,8 @@ loop-again c =
     let a = c.before.before.before.before.before.before.before.args in
     let n = c.before.before.before.before.before.before.in_use.ensures in
     let e = four c.before.before.before.before.before.before.before in
-    let next : (weighting_of a.w).combine (so_far b) b.distance-in.result ≡ worth_to a.w a.values.now a.t2.tests (l.i + 1) =
-    rw b.distance-in.ensures.is (worth-more a.w a.values.now a.t2.tests l.i _ (omega arith)) in
+    let next : (weighting_of a.w).combine (so_far b) b.distance-in.result ≡ worth_to a.w a.sample.now a.t2.tests (l.i + 1) =
+    rw b.distance-in.ensures.is (worth-more a.w a.sample.now a.t2.tests l.i _ (omega arith)) in
     let got : c.combine.result ≡ (weighting_of a.w).combine (so_far b) b.distance-in.result =
     simp (reads-worth b, reads-distance b) at c.combine.ensures in
     (omega arith, (ap (of_z w64) (got ∙ next), subst (λ (z : ℤ). nat_abs z ≤ 2000001 + 2 ^ 32 * (l.i + 1)) next (next-size b)))
@@ -102,7 +102,7 @@ returns c =
     let n = c.before.before.before.in_use.ensures in
     let i-is : l.i ≡ min a.t2.count 4 = omega arith in
     ap (to_z w64) l.invariant.1.0
-    ∙ to_z-of_z (abs_fits_64 (worth_to a.w a.values.now a.t2.tests l.i) (2 ^ 40) (omega arith) (lit< tt))
+    ∙ to_z-of_z (abs_fits_64 (worth_to a.w a.sample.now a.t2.tests l.i) (2 ^ 40) (omega arith) (lit< tt))
     ∙ rw (i-is, take-in_use a.t2.count 4 a.t2.tests (four c.before.before.before.before))
 
 pub place-worth-spec : {M : Type 1} → statement M

@@ -2,8 +2,8 @@ use mathlib.Core.Path.{sym}
 use lib.ListN.{get_or-eq_default}
 use lib.IntN.{pos}
 use borrow.Author.Rules.{rules}
-use Rattle.pattern.proofs.distance.value_at.Statement.{statement}
-use Rattle.pattern.proofs.distance.value_at.Tie as tie
+use Rattle.pattern.proofs.distance.reading.Statement.{statement}
+use Rattle.pattern.proofs.distance.reading.Tie as tie
 
 mul-result : tie.Need-overflow-mul-result
 mul-result c = search rules
@@ -15,7 +15,7 @@ returns : tie.Need-returns
 returns c = search rules
 
 returns-2 : tie.Need-returns-2
-returns-2 c = sym (get_or-eq_default c.before.args.values.now (pos 0) c.if1.false)
+returns-2 c = sym (get_or-eq_default c.before.args.sample.now (pos 0) c.if1.false)
 
-pub value-at-spec : {M : Type 1} → statement M
-value-at-spec = tie.close (tie.spec mul-result shared-slice-copy-out-result returns returns-2)
+pub reading-spec : {M : Type 1} → statement M
+reading-spec = tie.close (tie.spec mul-result shared-slice-copy-out-result returns returns-2)
