@@ -1,4 +1,5 @@
 // Best of a record: the record is fed to a monitor in chunks, and the best of the reports is kept.
+#![tactic(auto)]
 ghost use Rattle.std.specs.Prelude.{◌≡◌, ◌+◌, ◌≤◌, ◌<◌, length, take, get_or};
 ghost use Rattle.std.proofs.Math.Option.{none};
 ghost use Rattle.record.specs.Record.{total, book_of};
@@ -20,7 +21,7 @@ use record::rules::{least, record_sound};
 use weighting::at_least;
 
 // The best run's end, begin and score; no run; or refused for a cause.
-#[derive(Drop)]
+#[derive(Clone, Copy)]
 pub enum Found {
     Run(u32, u32, i64),
     Nothing,
@@ -28,7 +29,7 @@ pub enum Found {
 }
 
 // The best of the reports so far; length 0 stands for none.
-#[derive(Drop)]
+#[derive(Clone, Copy)]
 pub struct Choice {
     pub end: u32,
     pub length: u32,
@@ -36,7 +37,7 @@ pub struct Choice {
 }
 
 // Where the monitor stands in the record, and the choice so far.
-#[derive(Drop)]
+#[derive(Clone, Copy)]
 pub struct Search {
     pub state: State,
     pub choice: Choice,

@@ -1,4 +1,5 @@
 // Where a cell stands in a monitor's table, and which clocks it has (document 01, 'Monitor tables').
+#![tactic(auto)]
 ghost use Rattle.std.specs.Prelude.{◌≡◌, true, ◌+◌, ◌-◌, ◌≤◌, ◌<◌, min};
 ghost use Rattle.pattern.specs.Sound.{sound_of};
 ghost use Rattle.cells.specs.Layout.{layout_of, Laid};
@@ -9,7 +10,7 @@ use pattern::clocks::radix;
 
 // What the index needs: the greatest length, the places, a radix for each of four clocks; then the cells of a block
 // (one length, stage and place) and of a row (one length).
-#[derive(Drop)]
+#[derive(Clone, Copy)]
 pub struct Layout {
     pub high: usize,
     pub places: usize,

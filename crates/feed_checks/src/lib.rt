@@ -1,5 +1,6 @@
 // What opening and feeding are refused for (document 01, 'Open', 'Feed a piece'): each cause, and the first of them. The
 // look at a table's cells also finds which of its blocks hold a worth.
+#![tactic(auto)]
 ghost use Rattle.std.specs.Prelude.{◌≡◌, true, not, cond, ◌&&◌, ◌||◌, ◌+◌, ◌*◌, ◌≤◌, ◌<◌, ltb, length, take, drop};
 ghost use Rattle.std.proofs.Math.Option.{none};
 ghost use Rattle.pattern.specs.Slots.{all};
@@ -67,7 +68,7 @@ fn cell_fine(cell: i64) -> bool
 }
 
 // What a look at the cells of a block finds: whether all are fine, and whether one holds a worth.
-#[derive(Drop)]
+#[derive(Clone, Copy)]
 pub struct Look {
     pub fine: bool,
     pub held: bool,
@@ -96,7 +97,7 @@ fn look_block(table: &[i64], at: usize, size: usize) -> Look
 }
 
 // A row: whether all its cells are fine, and a flag for each block that holds a worth.
-#[derive(Drop)]
+#[derive(Clone, Copy)]
 pub struct RowLook {
     pub fine: bool,
     pub flags: u32,

@@ -1,6 +1,7 @@
 // A file in and lines out, over C's functions. A call that moves a part of what was asked, that a signal ends or that finds a
 // pipe not ready is gone on with; the kit's `io` takes the last two as failures. One that fails is told on standard error. No
 // contract can say which bytes C moves: what is proved is that the counts lie within the buffers and that each function ends.
+#![tactic(auto)]
 ghost use Rattle.std.specs.Prelude.{◌≤◌, length};
 ghost use Rattle.io.specs.Counts.{IsPrefixLen};
 
@@ -33,7 +34,7 @@ fn open(path: &[u8]) -> i32 {
 }
 
 // How far a file has been read: the bytes at the start of its buffer, whether more may come, whether a read failed.
-#[derive(Drop)]
+#[derive(Clone, Copy)]
 struct Reading {
     at: usize,
     more: bool,
@@ -73,7 +74,7 @@ fn read_all(fd: i32, buffer: &mut [u8]) -> Reading
 }
 
 // What was taken of a file. It is not whole if reading it failed.
-#[derive(Drop)]
+#[derive(Clone, Copy)]
 pub struct Taken {
     pub length: usize,
     pub whole: bool,
@@ -105,7 +106,7 @@ pub fn read_file(path: &[u8], buffer: &mut [u8]) -> Taken
 }
 
 // How far lines have been written, and whether a write failed.
-#[derive(Drop)]
+#[derive(Clone, Copy)]
 struct Writing {
     at: usize,
     failed: bool,

@@ -2,6 +2,7 @@
 // feeding, pricing and the best of a record (document 01, 'Operations and refusals'). A pattern is given by its text, the
 // monitor's state is a lent slice of numbers (crate state_slice), and answers are plain numbers or structs of numbers.
 // include/bench_margin.h declares all of them for C.
+#![tactic(auto)]
 ghost use Rattle.std.specs.Prelude.{◌≡◌};
 ghost use Rattle.pattern_text.specs.Text.{read_of};
 ghost use Rattle.feed.specs.After.{call_of};

@@ -1,4 +1,5 @@
 // The library's answers as a host in C is told them: plain numbers, or structs of numbers.
+#![tactic(auto)]
 ghost use Rattle.std.specs.Prelude.{◌≡◌};
 ghost use Rattle.pattern_read.specs.Reading.{outcome_number};
 ghost use Rattle.host_told.specs.Told.{counted_cells, price_told, best_told};
@@ -11,7 +12,7 @@ use price::Priced;
 
 // What a run is worth; 0 beside a refusal.
 #[repr(C)]
-#[derive(Drop)]
+#[derive(Clone, Copy)]
 pub struct RunPrice {
     pub refusal: u32,
     pub score: i64,
@@ -19,7 +20,7 @@ pub struct RunPrice {
 
 // The best run of a record: `found` is 1, or 0 if there is none; then, and beside a refusal, the rest is 0.
 #[repr(C)]
-#[derive(Drop)]
+#[derive(Clone, Copy)]
 pub struct RecordBest {
     pub refusal: u32,
     pub found: u32,

@@ -1,4 +1,5 @@
 // The lists of a line of a pattern text at a position: a place's tests, an edge's guards and resets.
+#![tactic(auto)]
 ghost use Rattle.std.specs.Prelude.{◌≡◌, ◌≤◌, length};
 ghost use Rattle.pattern.specs.Sound.{guard_in_range};
 ghost use Rattle.text_scan.specs.Scan.{cap};
@@ -20,7 +21,7 @@ use text_scan::{Found, Number};
 
 // The tests of a place as read so far: the first four, their number held at five, whether all their numbers are in
 // range and every channel known.
-#[derive(Drop)]
+#[derive(Clone, Copy)]
 pub struct Tests {
     pub tests: [Test; 4],
     pub count: u8,
@@ -29,7 +30,7 @@ pub struct Tests {
 }
 
 // `more`: whether another may follow at `next`.
-#[derive(Drop)]
+#[derive(Clone, Copy)]
 pub struct TestsRead {
     pub tests: Tests,
     pub next: usize,
@@ -117,7 +118,7 @@ pub fn tests_at(text: &[u8], at: usize, channels: u8) -> TestsRead
 }
 
 // The guards of an edge as read so far, as the tests of a place are.
-#[derive(Drop)]
+#[derive(Clone, Copy)]
 pub struct Guards {
     pub guards: [Guard; 4],
     pub count: u8,
@@ -125,7 +126,7 @@ pub struct Guards {
     pub known: bool,
 }
 
-#[derive(Drop)]
+#[derive(Clone, Copy)]
 pub struct GuardsRead {
     pub guards: Guards,
     pub next: usize,
@@ -219,21 +220,21 @@ pub fn guards_at(text: &[u8], at: usize, clocks: u8) -> GuardsRead
 
 // The clocks of a reset bracket as read so far: a flag for each clock, the least that may come next, and whether each
 // was known and above the one before it.
-#[derive(Drop)]
+#[derive(Clone, Copy)]
 pub struct Resets {
     pub flags: [bool; 4],
     pub least: u32,
     pub known: bool,
 }
 
-#[derive(Drop)]
+#[derive(Clone, Copy)]
 pub struct ResetsRead {
     pub resets: Resets,
     pub next: usize,
     pub more: bool,
 }
 
-#[derive(Drop)]
+#[derive(Clone, Copy)]
 pub struct Bracket {
     pub found: bool,
     pub resets: Resets,

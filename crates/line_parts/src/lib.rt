@@ -1,4 +1,5 @@
 // The parts of a line of a pattern text at a position: signs, kinds, weighings, tests, guards.
+#![tactic(auto)]
 ghost use Rattle.std.specs.Prelude.{◌≡◌, ◌&&◌, ◌≤◌, min, leb, ltb, length};
 ghost use Rattle.line_parts.specs.Parts.{sign_at, kind_at, weighing_at, side_at, band_at, test_at, guard_at, spaced_at};
 
@@ -7,31 +8,31 @@ use text_scan::{Found, Integer, Number};
 use weighting::Weighing;
 
 // What was read, and where it ends.
-#[derive(Drop)]
+#[derive(Clone, Copy)]
 pub enum SignRead {
     Broken,
     Value(Sign, usize),
 }
 
-#[derive(Drop)]
+#[derive(Clone, Copy)]
 pub enum KindRead {
     Broken,
     Value(Kind, usize),
 }
 
-#[derive(Drop)]
+#[derive(Clone, Copy)]
 pub enum WeighingRead {
     Broken,
     Value(Weighing, usize),
 }
 
-#[derive(Drop)]
+#[derive(Clone, Copy)]
 pub enum TestRead {
     Broken,
     Value(Test, usize),
 }
 
-#[derive(Drop)]
+#[derive(Clone, Copy)]
 pub enum GuardRead {
     Broken,
     Value(Guard, usize),

@@ -1,4 +1,5 @@
 // The three kinds of line of a pattern text at a position, each with its line feed.
+#![tactic(auto)]
 ghost use Rattle.std.specs.Prelude.{◌≡◌, ◌≤◌, length};
 ghost use Rattle.line_read.specs.Lines.{header_at, place_at, edge_at};
 
@@ -9,7 +10,7 @@ use text_scan::{Found, Number};
 use weighting::Weighing;
 
 // A header's numbers, held.
-#[derive(Drop)]
+#[derive(Clone, Copy)]
 pub struct Header {
     pub weighing: Weighing,
     pub channels: u32,
@@ -18,7 +19,7 @@ pub struct Header {
     pub high: u32,
 }
 
-#[derive(Drop)]
+#[derive(Clone, Copy)]
 pub enum HeaderRead {
     Broken,
     Value(Header, usize),
@@ -63,7 +64,7 @@ pub fn header_at(text: &[u8], at: usize) -> HeaderRead
 }
 
 // A place's line, if `found`.
-#[derive(Drop)]
+#[derive(Clone, Copy)]
 pub struct PlaceRead {
     pub found: bool,
     pub kind: Kind,
@@ -107,7 +108,7 @@ pub fn place_at(text: &[u8], at: usize, channels: u8) -> PlaceRead
 }
 
 // An edge's line, if `found`; its ends are held.
-#[derive(Drop)]
+#[derive(Clone, Copy)]
 pub struct EdgeRead {
     pub found: bool,
     pub from: u32,

@@ -1,4 +1,5 @@
 // A pattern by value, as document 01 names its parts. Counts say how many slots of an array are in use.
+#![tactic(auto)]
 pub mod clocks;
 pub mod distance;
 pub mod slots;
@@ -13,7 +14,7 @@ ghost use Rattle.pattern.specs.Sound.{place_sound, place_unused, edge_sound, edg
 use weighting::Weighing;
 
 // The four signs of tests and guards: `<`, `<=`, `>`, `>=`.
-#[derive(Drop)]
+#[derive(Clone, Copy)]
 pub enum Sign {
     Less,
     AtMost,
@@ -23,7 +24,7 @@ pub enum Sign {
 
 // What a place asks of a channel: a sign with a bound, or a band, whose low stands as the bound (document 02, R-1). A band
 // says no sign and has `<` there, any other test says no high and has 0 there.
-#[derive(Drop)]
+#[derive(Clone, Copy)]
 pub struct Test {
     pub sign: Sign,
     pub channel: u8,
@@ -33,7 +34,7 @@ pub struct Test {
 }
 
 // Both is start and end.
-#[derive(Drop)]
+#[derive(Clone, Copy)]
 pub enum Kind {
     Start,
     Plain,
@@ -41,14 +42,14 @@ pub enum Kind {
     Both,
 }
 
-#[derive(Drop)]
+#[derive(Clone, Copy)]
 pub struct Place {
     pub kind: Kind,
     pub tests: [Test; 4],
     pub count: u8,
 }
 
-#[derive(Drop)]
+#[derive(Clone, Copy)]
 pub struct Guard {
     pub sign: Sign,
     pub clock: u8,
@@ -56,7 +57,7 @@ pub struct Guard {
 }
 
 // `count` counts the guards; `resets` has a flag for each clock.
-#[derive(Drop)]
+#[derive(Clone, Copy)]
 pub struct Edge {
     pub from: u8,
     pub to: u8,
@@ -66,7 +67,7 @@ pub struct Edge {
 }
 
 // `low` and `high` are the window's.
-#[derive(Drop)]
+#[derive(Clone, Copy)]
 pub struct Pattern {
     pub weighing: Weighing,
     pub channels: u8,
@@ -80,7 +81,7 @@ pub struct Pattern {
 }
 
 // The causes of a refusal, in the order of document 01's numbers, from 1 (`number_of` in specs/Refusal).
-#[derive(Drop)]
+#[derive(Clone, Copy)]
 pub enum Refusal {
     TextTooLong,
     BrokenForm,
@@ -99,7 +100,7 @@ pub enum Refusal {
 }
 
 // The answer to a count of cells.
-#[derive(Drop)]
+#[derive(Clone, Copy)]
 pub enum Counted {
     Cells(u64),
     Refused(Refusal),

@@ -1,5 +1,6 @@
 // The lines of a pattern text (document 01, 'Read a pattern'): the line that may stand next is judged by what the lines above it
 // gave, and then what it holds is put into the pattern. The walk over all lines is the crate pattern_read's.
+#![tactic(auto)]
 ghost use Rattle.std.specs.Prelude.{◌≡◌, ◌≤◌, length};
 ghost use Rattle.pattern.specs.Sound.{no_place, no_edge, no_pattern};
 ghost use Rattle.pattern_lines.specs.Turn.{
@@ -28,7 +29,7 @@ use pattern::{Edge, Guard, Kind, Pattern, Place, Refusal, Sign, Test};
 use weighting::Weighing;
 
 // What may come next: the header; a place, or an edge if there is a place; an edge; nothing any more.
-#[derive(Drop)]
+#[derive(Clone, Copy)]
 pub enum Stage {
     Header,
     Places,
@@ -37,7 +38,7 @@ pub enum Stage {
 }
 
 // The walk: where the next line begins, and the pattern as read so far.
-#[derive(Drop)]
+#[derive(Clone, Copy)]
 pub struct State {
     pub at: usize,
     pub stage: Stage,
@@ -45,7 +46,7 @@ pub struct State {
 }
 
 // What a line is judged by: how many channels, clocks, places and edges the lines above it gave.
-#[derive(Drop)]
+#[derive(Clone, Copy)]
 pub struct Counts {
     pub channels: u8,
     pub clocks: u8,
@@ -53,7 +54,7 @@ pub struct Counts {
     pub edges: u8,
 }
 
-#[derive(Drop)]
+#[derive(Clone, Copy)]
 pub enum Content {
     Header(Header),
     Place,
@@ -63,7 +64,7 @@ pub enum Content {
 
 // A line, judged, and where the next one begins: small, so that a pattern is copied only where a line is put into it.
 // The place and the edge stand beside the content, zeros throughout but for the one that it names.
-#[derive(Drop)]
+#[derive(Clone, Copy)]
 pub struct Line {
     pub at: usize,
     pub content: Content,
@@ -136,7 +137,7 @@ fn refused_at(end: usize, cause: Refusal) -> State
     }
 }
 
-#[derive(Drop)]
+#[derive(Clone, Copy)]
 pub enum Verdict {
     Fine,
     Faulty(Refusal),

@@ -1,5 +1,6 @@
 // Read a pattern (document 01, 'Read a pattern'): one reader walks the text from line to line. What a line says, and what it
 // leaves in the pattern, is the crate pattern_lines'.
+#![tactic(auto)]
 ghost use Rattle.std.specs.Prelude.{◌≡◌, ◌≤◌, length};
 ghost use Rattle.std.proofs.Math.Option.{none};
 ghost use Rattle.pattern_text.specs.Text.{lines_of, read_lines, read_of};
@@ -11,14 +12,14 @@ use pattern::{Pattern, Refusal};
 use pattern_lines::{Stage, State, no_pattern, turn};
 use text_reader::Reader;
 
-#[derive(Drop)]
+#[derive(Clone, Copy)]
 pub enum Outcome {
     Accepted,
     Refused(Refusal),
 }
 
 // The pattern is zeros throughout at a refusal.
-#[derive(Drop)]
+#[derive(Clone, Copy)]
 pub struct PatternRead {
     pub outcome: Outcome,
     pub pattern: Pattern,

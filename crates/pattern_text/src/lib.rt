@@ -1,1 +1,2 @@
 // No code: the definitions of the pattern text, and what is proved of them.
+#![tactic(auto)]

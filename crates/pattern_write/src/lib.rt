@@ -1,11 +1,12 @@
 // Write a pattern (document 01, 'Operations and refusals').
+#![tactic(auto)]
 ghost use Rattle.std.specs.Prelude.{◌≡◌, length};
 ghost use Rattle.pattern_write.specs.Written.{written_of, output_of, written_as, written_numbers};
 
 use pattern::{Pattern, Refusal};
 
 // How many bytes the text has, or why it was not written.
-#[derive(Drop)]
+#[derive(Clone, Copy)]
 pub enum Written {
     Length(usize),
     Refused(Refusal),

@@ -1,4 +1,5 @@
 // Pricing a run laid out edge by edge: what it is refused for, where it begins, its steps, and what it comes to.
+#![tactic(auto)]
 ghost use Rattle.std.specs.Prelude.{◌≡◌, ◌≤◌, ◌<◌, length};
 ghost use Rattle.pattern.specs.InUse.{place_at, edge_at};
 ghost use Rattle.record.specs.Record.{total, book_of};
@@ -13,14 +14,14 @@ use price_runs::{Stand, run};
 use record::rules::{record_sound, ticks};
 use weighting::unit;
 
-#[derive(Drop)]
+#[derive(Clone, Copy)]
 pub enum Priced {
     Score(i64),
     Refused(Refusal),
 }
 
 // Where a run begins: a piece, and the ticks of it that lie before the begin.
-#[derive(Drop)]
+#[derive(Clone, Copy)]
 pub struct Begin {
     pub piece: usize,
     pub used: u32,

@@ -1,4 +1,5 @@
 // A run, step by step.
+#![tactic(auto)]
 ghost use Rattle.std.specs.Prelude.{◌≡◌, length};
 ghost use Rattle.pattern.specs.Clocks.{later};
 ghost use Rattle.record.specs.Run.{clocks_after, steps_of};
@@ -10,7 +11,7 @@ use price_stays::{Walk, stay_in};
 
 // Where a run stands between two steps, if it goes on: in a place just entered, with the clocks as they are then; in a
 // piece, of which some ticks are used; the ticks left of the record; the worth so far.
-#[derive(Drop)]
+#[derive(Clone, Copy)]
 pub struct Stand {
     pub going: bool,
     pub place: u8,

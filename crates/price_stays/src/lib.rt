@@ -1,4 +1,5 @@
 // What a stay is worth, piece by piece.
+#![tactic(auto)]
 ghost use Rattle.std.specs.Prelude.{◌≡◌, ◌+◌, ◌*◌, ◌≤◌, ◌<◌, length};
 ghost use Rattle.record.specs.Record.{sample_at};
 ghost use Rattle.price_stays.specs.Walk.{seen_at, joins_to, with_piece, Observes, Walks, Turned, Stayed};
@@ -10,7 +11,7 @@ use record::samples::agree_in;
 use weighting::{Weighing, combine};
 
 // Where a stay stands: in a piece, of which some ticks are used; the ticks left of the stay; the worth so far.
-#[derive(Drop)]
+#[derive(Clone, Copy)]
 pub struct Walk {
     pub piece: usize,
     pub used: u32,

@@ -1,4 +1,5 @@
 // Read a record's text (document 01, 'The watch program'): check it whole, then walk it piece by piece.
+#![tactic(auto)]
 ghost use Rattle.std.specs.Prelude.{◌≡◌, ◌+◌, ◌≤◌, min, length};
 ghost use Rattle.record_text.specs.Text.{read_record, pieces_refusal, record_refusal};
 ghost use Rattle.record_read.specs.Line.{limit, no_values, add_value, value_at, value_turn, values_at, line_at, piece_at};
@@ -8,14 +9,14 @@ use pattern::Refusal;
 use text_reader::Reader;
 use text_scan::{Found, Integer, Number};
 
-#[derive(Drop)]
+#[derive(Clone, Copy)]
 pub enum Checked {
     Sound,
     Refused(Refusal),
 }
 
 // A piece, and where the next one begins. Channels that the record lacks are zeros.
-#[derive(Drop)]
+#[derive(Clone, Copy)]
 pub struct PieceRead {
     pub duration: u32,
     pub values: [i32; 8],
@@ -24,7 +25,7 @@ pub struct PieceRead {
 
 // The values of a line as read so far: the first eight, their number held at 256, which no count of channels reaches, and
 // whether each is in range.
-#[derive(Drop)]
+#[derive(Clone, Copy)]
 pub struct Values {
     pub values: [i32; 8],
     pub count: u32,
@@ -32,7 +33,7 @@ pub struct Values {
 }
 
 // `more`: whether another may follow at `next`.
-#[derive(Drop)]
+#[derive(Clone, Copy)]
 pub struct ValuesRead {
     pub values: Values,
     pub next: usize,
@@ -40,7 +41,7 @@ pub struct ValuesRead {
 }
 
 // A piece's line, if `found`; its duration is held at 2,147,483,648. Otherwise `next` is the text's end.
-#[derive(Drop)]
+#[derive(Clone, Copy)]
 pub struct LineRead {
     pub found: bool,
     pub duration: u32,
@@ -49,7 +50,7 @@ pub struct LineRead {
 }
 
 // The lines so far: whether they have the form, and keep the rules; their ticks, held at 2,147,483,648.
-#[derive(Drop)]
+#[derive(Clone, Copy)]
 pub struct Walk {
     pub form: bool,
     pub sound: bool,

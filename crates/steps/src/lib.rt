@@ -1,4 +1,5 @@
 // The edges of a pattern as numbers, made once for all ticks of a call, so that a move along one needs no edge.
+#![tactic(auto)]
 ghost use Rattle.std.specs.Prelude.{◌≡◌, cond, ℕ, ◌+◌, ◌≤◌, ◌<◌, min, max, get_or};
 ghost use Rattle.steps.specs.Steps.{step_at, in_span, goes_in, kept_by, after_in, edge_in, Fit, Steps};
 ghost use Rattle.steps.specs.Made.{narrowed, narrowed_on, span_of, number_of};
@@ -7,7 +8,7 @@ use pattern::clocks::in_use;
 use pattern::{Edge, Guard, Sign};
 
 // The values that guards leave a clock: from `low` to below `upto`.
-#[derive(Drop)]
+#[derive(Clone, Copy)]
 struct Span {
     low: usize,
     upto: usize,

@@ -2,6 +2,7 @@
 // moved by a tick; it stays, and goes along the edges out of its place whose guards hold. What is offered to an end place
 // just entered is noted for the report as it is offered. A block that a worth enters along an edge has its flag raised; that
 // of the block that it stays in was raised before, once for all worths of a block (`table_blocks`, `pass`).
+#![tactic(auto)]
 pub mod report;
 
 ghost use Rattle.std.specs.Prelude.{◌≡◌, cond, ◌+◌, ◌≤◌, ◌<◌, length};
@@ -22,7 +23,7 @@ use steps::{after, goes, leads_to};
 use weighting::{MARK, Weighing, choose, combine};
 
 // What one tick gains in each place, by stage: just entered, or staying. MARK where the place cannot be stayed in.
-#[derive(Drop)]
+#[derive(Clone, Copy)]
 pub struct View {
     pub entered: [i64; 16],
     pub staying: [i64; 16],
@@ -131,7 +132,7 @@ pub fn leave(
 }
 
 // What an occupied cell sends along the edges out of its place: its clocks and its worth a tick later.
-#[derive(Drop)]
+#[derive(Clone, Copy)]
 pub struct Sent {
     pub clocks: [usize; 4],
     pub worth: i64,
@@ -164,7 +165,7 @@ pub fn visit(
 }
 
 // An occupied cell of a block and its worth; or the block's size.
-#[derive(Drop)]
+#[derive(Clone, Copy)]
 pub struct Spot {
     pub cell: usize,
     pub worth: i64,

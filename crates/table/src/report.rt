@@ -5,7 +5,7 @@ ghost use Rattle.table.specs.Reports.{no_report, noted};
 use weighting::{Weighing, at_least};
 
 // The best run's score and length; zeros if there is none.
-#[derive(Drop)]
+#[derive(Clone, Copy)]
 pub struct Report {
     pub score: i64,
     pub length: usize,

@@ -1,8 +1,9 @@
 // One reader walks a text from line to line (document 01, 'Required forms by place'): the lent text, and where the next line
 // begins. No function over it is covered by the search: what it does is the covered function's, on the text and the number.
+#![tactic(auto)]
 ghost use Rattle.std.specs.Prelude.{◌≡◌, ltb, length};
 
-#[derive(Drop)]
+#[derive(Clone, Copy)]
 pub struct Reader<'a> {
     pub text: &'a [u8],
     pub at: usize,

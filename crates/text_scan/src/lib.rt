@@ -1,4 +1,5 @@
 // Words and numbers at a position of a lent text, as the definitions of crate pattern_text read them from there on.
+#![tactic(auto)]
 ghost use Rattle.std.specs.Prelude.{◌≡◌, ◌≤◌, ◌<◌, length};
 ghost use Rattle.text_scan.specs.Scan.{
   word_at,
@@ -14,27 +15,27 @@ ghost use Rattle.text_scan.specs.Scan.{
 };
 
 // Where a word that was looked for ends.
-#[derive(Drop)]
+#[derive(Clone, Copy)]
 pub enum Found {
     Nothing,
     At(usize),
 }
 
 // A number's value, held at a limit, and where it ends.
-#[derive(Drop)]
+#[derive(Clone, Copy)]
 pub enum Number {
     Broken,
     Value(u32, usize),
 }
 
 // The same with a minus, held at 1,000,001 and -1,000,001.
-#[derive(Drop)]
+#[derive(Clone, Copy)]
 pub enum Integer {
     Broken,
     Value(i32, usize),
 }
 
-#[derive(Drop)]
+#[derive(Clone, Copy)]
 pub struct Digits {
     pub value: u32,
     pub next: usize,

@@ -1,6 +1,7 @@
 // Executes the table of texts texts.txt, which says its own form: each text is read, an accepted one is written back, into
 // a longer buffer, an exact fit and too short ones, and the answers are compared with the table's. tests/host tries the same
 // table from C.
+#![tactic(auto)]
 pub mod writes;
 
 ghost use Rattle.std.specs.Prelude.{◌<◌, ◌≤◌, length};
@@ -10,14 +11,14 @@ use pattern::{Counted, Pattern};
 use pattern_read::Outcome;
 
 // A number in base ten and where it ends. There may be no digit.
-#[derive(Drop)]
+#[derive(Clone, Copy)]
 pub struct Numeral {
     pub value: u64,
     pub end: usize,
 }
 
 // How many bytes the text has so far, and how many texts were answered as the table says, or otherwise.
-#[derive(Drop)]
+#[derive(Clone, Copy)]
 struct Tally {
     length: usize,
     right: u64,

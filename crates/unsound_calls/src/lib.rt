@@ -1,5 +1,6 @@
 // A pattern without channels, which no text reads as and C cannot lend: 7 comes first. The causes of all later refusals are
 // there, and what is lent is unchanged.
+#![tactic(auto)]
 use best::best;
 use call_values::answers::{answer, found_answer, priced_answer};
 use call_values::lines::judge;

@@ -1,5 +1,6 @@
 // Executes the table of pattern values values.txt, which says its own form and which C cannot reach: values that no text reads
 // as, between sound ones.
+#![tactic(auto)]
 pub mod values;
 
 use libc::STDOUT_FILENO;
@@ -9,7 +10,7 @@ use text_vectors::{Numeral, low_byte, next_line, numeral_at, print};
 use values::{with_counts, with_edge, with_guard, with_header, with_place, with_reset, with_test};
 
 // The numbers of a row; those that it lacks are not looked at.
-#[derive(Drop)]
+#[derive(Clone, Copy)]
 struct Numbers {
     a: u64,
     b: u64,

@@ -1,5 +1,6 @@
 // Reads pattern.txt and record.txt in the current folder and prints how well the record followed the pattern. Everything
 // that decides is in `watch_start` and `watch_steps`; how files are read and lines written is in `files`.
+#![tactic(auto)]
 ghost use Rattle.std.specs.Prelude.{◌≡◌, false, ◌≤◌, ◌<◌, length};
 ghost use Rattle.io.specs.Counts.{IsPrefixLen};
 ghost use Rattle.watch_steps.specs.Steps.{is_done, steps_left, Standing};
@@ -10,7 +11,7 @@ use watch_start::start;
 use watch_steps::{Watch, is_done, next};
 
 // After a step: where the program stands, and whether the step's lines were written.
-#[derive(Drop)]
+#[derive(Clone, Copy)]
 struct Shown {
     watch: Watch,
     written: bool,

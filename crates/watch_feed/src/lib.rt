@@ -1,4 +1,5 @@
 // A chunk of a record fed to the monitor, and the lines of its ends put into a buffer.
+#![tactic(auto)]
 ghost use Rattle.std.specs.Prelude.{◌≡◌, ℕ, ◌+◌, ◌*◌, ◌≤◌, ◌<◌, length, get_or};
 ghost use Rattle.monitor.specs.Feed.{feed_state, feed_first, feed_second, feed_scores, feed_lengths};
 ghost use Rattle.best.specs.Search.{chosen_in, chosen_past, chunk_of};
@@ -11,7 +12,7 @@ use pattern::Pattern;
 use watch_text::put_reports;
 
 // The monitor and the choice after the chunk; its lines have `length` bytes.
-#[derive(Drop)]
+#[derive(Clone, Copy)]
 pub struct Fed {
     pub search: Search,
     pub length: usize,

@@ -1,4 +1,5 @@
 // What `watch` prints, step by step: each step puts some lines into a buffer, and the next goes on from there.
+#![tactic(auto)]
 ghost use Rattle.std.specs.Prelude.{◌≡◌, false, ℕ, ◌+◌, ◌-◌, ◌≤◌, ◌<◌, min, length, get_or};
 ghost use Rattle.monitor.specs.Feed.{feed_lengths};
 ghost use Rattle.best.specs.Search.{chosen_in};
@@ -24,7 +25,7 @@ use watch_feed::feed_rows;
 use watch_text::{put_best, put_heading, put_refused};
 
 // What comes next: a refusal alone; the heading; lines of ends, or the last line; nothing any more.
-#[derive(Drop)]
+#[derive(Clone, Copy)]
 pub enum Stage {
     Refused(Refusal),
     Heading,
@@ -33,14 +34,14 @@ pub enum Stage {
 }
 
 // Where the next piece begins in the record's text; the ticks left of the present one, and its values.
-#[derive(Drop)]
+#[derive(Clone, Copy)]
 pub struct Cursor {
     pub at: usize,
     pub left: u32,
     pub values: [i32; 8],
 }
 
-#[derive(Drop)]
+#[derive(Clone, Copy)]
 pub struct Watch {
     pub stage: Stage,
     pub pattern: Pattern,
@@ -49,7 +50,7 @@ pub struct Watch {
 }
 
 // A step's lines have `length` bytes.
-#[derive(Drop)]
+#[derive(Clone, Copy)]
 pub struct Step {
     pub watch: Watch,
     pub length: usize,

@@ -1,4 +1,6 @@
 // The two weightings on i64: the unit, the combination, and the choice in a cell.
+#![tactic(auto)]
+
 ghost use Rattle.std.specs.Prelude.{◌≡◌, cond};
 ghost use Rattle.std.specs.Int.{w64};
 ghost use Rattle.std.proofs.Common.{SFits};
@@ -8,7 +10,7 @@ ghost use Rattle.weighting.specs.Weightings.{weighting_of};
 ghost use Rattle.weighting.specs.Cell.{cell_of, held_in};
 
 // The two weightings that a pattern can name (document 01, 'Pattern text', line 1).
-#[derive(Drop)]
+#[derive(Clone, Copy)]
 pub enum Weighing {
     Margin,
     Sum,
