@@ -1,5 +1,6 @@
 // A pattern by value, as document 01 names its parts. Counts say how many slots of an array are in use.
 #![tactic(auto)]
+
 pub mod clocks;
 pub mod distance;
 pub mod slots;
