@@ -1,4 +1,5 @@
 // Records: their rules, and samples.
 #![tactic(auto)]
+
 pub mod rules;
 pub mod samples;

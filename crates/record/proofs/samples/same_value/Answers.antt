@@ -9,8 +9,7 @@ use mir.Val.{SFits, to_z, of_z}
 use Rattle.integers.specs.Equal.{eq_z}
 use Rattle.integers.proofs.Equal.{eq_self, ne_false}
 use Rattle.integers.proofs.Casts.{read_back}
-use Rattle.record.proofs.samples.same_value.Statement.{statement}
-use Rattle.record.proofs.samples.same_value.Tie as tie
+use Rattle.record.proofs.samples.same_value.Goals as goal
 
 bits-differ : (a b : ℤ) → SFits w32 a → SFits w32 b → eqb (of_z w32 a) (of_z w32 b) ≡ eq_z a b
 bits-differ a b p q = by (eqb (of_z w32 a) (of_z w32 b)) refl
@@ -21,8 +20,5 @@ bits-differ a b p q = by (eqb (of_z w32 a) (of_z w32 b)) refl
         rw same (sym (eq_self b))
     by false e = sym (ne_false a b (λ s. eqb-false (of_z w32 a) (of_z w32 b) e (ap (of_z w32) s)))
 
-returns : tie.Need-returns
+pub returns : goal.returns
 returns c = bits-differ c.args.a c.args.b c.ranges.a c.ranges.b
-
-pub same-value-spec : {M : Type 1} → statement M
-same-value-spec = tie.close (tie.spec returns)
