@@ -1,5 +1,5 @@
 -- Blocks and rows in a table, and the index of a cell: its range, and that it and its inverse undo each other.
-use Prim.Native.Nat.{ℕ, ◌+◌, ◌-◌, ◌*◌, ◌/◌, ◌%◌, ◌^◌, ◌≤◌, ◌<◌}
+use Prim.Native.Nat.{ℕ, ◌+◌, ◌*◌, ◌/◌, ◌%◌, ◌^◌, ◌≤◌, ◌<◌}
 use native.Mathlib.Omega.{arith}
 use native.Mathlib.Numerals.{add-one}
 use native.Mathlib.Nat.{suc-mul, one-mul, mul_comm, mul_assoc, add-mul, mul-le-mul_right, le-mul_of_pos_right, div-add-mod', div-lt_iff_lt-mul, mod-lt, mul-zero, zero-mul, pos_of_ne-zero}

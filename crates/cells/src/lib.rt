@@ -1,5 +1,6 @@
 // Where a cell stands in a monitor's table, and which clocks it has (document 01, 'Monitor tables').
 #![tactic(auto)]
+
 ghost use Rattle.std.specs.Prelude.{◌≡◌, true, ◌+◌, ◌-◌, ◌≤◌, ◌<◌, min};
 ghost use Rattle.pattern.specs.Sound.{sound_of};
 ghost use Rattle.cells.specs.Layout.{layout_of, Laid};

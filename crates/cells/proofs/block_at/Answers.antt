@@ -3,44 +3,39 @@ use native.Mathlib.Omega.{arith}
 use mathlib.Core.Path.{refl}
 use Rattle.cells.specs.Index.{block_at}
 use Rattle.cells.proofs.Blocks.{in_table}
-use Rattle.cells.proofs.block_at.Statement.{statement}
-use Rattle.cells.proofs.block_at.Tie as tie
+use Rattle.cells.proofs.block_at.Goals as goal
 
 -- What is promised stands first, so that a wrong body is refused there (decision 64).
-returns : tie.Need-returns
+pub returns : goal.returns
 unfolding block_at
 returns c = refl
 
-mul-result : tie.Need-overflow-mul-result
-mul-result c = let s = c.before in
+pub overflow_mul-result : goal.overflow_mul-result
+overflow_mul-result c = let s = c in
     let h = in_table s.args.l s.args.n s.args.stage s.args.p s.requires in
     let laid = s.requires.laid in
     omega arith
 
-mul-result-2 : tie.Need-overflow-mul-result-2
-mul-result-2 c = let s = c.before.before in
+pub overflow_mul-result-2 : goal.overflow_mul-result-2
+overflow_mul-result-2 c = let s = c in
     let h = in_table s.args.l s.args.n s.args.stage s.args.p s.requires in
     let laid = s.requires.laid in
     omega arith
 
-add-result : tie.Need-overflow-add-result
-add-result c = let s = c.before.before in
+pub overflow_add-result : goal.overflow_add-result
+overflow_add-result c = let s = c in
     let h = in_table s.args.l s.args.n s.args.stage s.args.p s.requires in
     let laid = s.requires.laid in
     omega arith
 
-mul-result-3 : tie.Need-overflow-mul-result-3
-mul-result-3 c = let s = c.before.before.before in
+pub overflow_mul-result-3 : goal.overflow_mul-result-3
+overflow_mul-result-3 c = let s = c in
     let h = in_table s.args.l s.args.n s.args.stage s.args.p s.requires in
     let laid = s.requires.laid in
     omega arith
 
-add-result-2 : tie.Need-overflow-add-result-2
-add-result-2 c = let s = c.before.before.before in
+pub overflow_add-result-2 : goal.overflow_add-result-2
+overflow_add-result-2 c = let s = c in
     let h = in_table s.args.l s.args.n s.args.stage s.args.p s.requires in
     let laid = s.requires.laid in
     omega arith
-
-pub block-at-spec : {M : Type 1} → statement M
-block-at-spec =
-    tie.close (tie.spec mul-result mul-result-2 add-result mul-result-3 add-result-2 returns)
