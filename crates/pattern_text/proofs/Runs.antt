@@ -15,7 +15,7 @@ use Rattle.pattern.specs.Sound.{guard_in_range, header_in_range}
 use Rattle.pattern_text.specs.Bytes.{Bytes, bytes}
 use Rattle.pattern_text.specs.Form.{write_many}
 use Rattle.pattern_text.specs.Line.{Header, PlaceLine, EdgeLine, Raw, render_line, header, place, edge}
-use Rattle.pattern_text.specs.Fault.{Doc, judged, edge_known, raw_in_range, raw_known, header_fault, place_fault, edge_fault, Step, unless, is_empty, with_place, with_edge, step_of, next, stop}
+use Rattle.pattern_text.specs.Fault.{Doc, judged, edge_known, raw_in_range, raw_known, header_fault, place_fault, edge_fault, unless, is_empty, with_place, with_edge, step_of, next, stop}
 use Rattle.pattern_text.specs.Text.{raws_of, ended}
 use Rattle.pattern_text.specs.Claims.{Says, nothing, onemore}
 use Rattle.pattern_text.proofs.Tools.{both, in_both, all_append}
