@@ -1,6 +1,7 @@
 // Which blocks of a monitor's table hold a worth: a number for each length, and in it a bit for each block of that row (a
 // stage and a place). A block whose bit is not set need not be looked at.
 #![tactic(auto)]
+
 ghost use Rattle.std.specs.Prelude.{◌≡◌, ◌^◌, ◌≤◌, ◌<◌, cond, eqb, length};
 ghost use Rattle.std.specs.Int.Bits.{bit_or};
 ghost use Rattle.flags.specs.Flags.{bit_at, raised, start_flags};
