@@ -1,6 +1,7 @@
 // One reader walks a text from line to line (document 01, 'Required forms by place'): the lent text, and where the next line
-// begins. No function over it is covered by the search: what it does is the covered function's, on the text and the number.
+// begins.
 #![tactic(auto)]
+
 ghost use Rattle.std.specs.Prelude.{◌≡◌, ltb, length};
 
 #[derive(Clone, Copy)]
