@@ -6,8 +6,8 @@ use mathlib.Core.List.{List, [], ◌∷◌, map, Memᴰ}
 use mathlib.Core.Option.{some}
 use mathlib.Core.Bool.{Bool, true, false}
 use borrow.Author.Tests.{eqb-true, leb-true, ltb-true, eq-eqb, le-leb, lt-ltb}
-use lib.Dec.{T, eqb, leb, ltb}
-use lib.ListN.{length, take, get_or, length-take}
+use lib.Dec.{T}
+use lib.ListN.{length, get_or, length-take}
 use lib.Seq.{get_or-take}
 use lib.IntN.{ℤ}
 use Rattle.integers.proofs.Tests.{T_true, true_T, both_true}
@@ -21,7 +21,7 @@ use Rattle.pattern.specs.Clocks.{Clocks, zero_clocks, later, guards_hold, after_
 use Rattle.pattern.proofs.SoundLaws.{both, parts}
 use Rattle.record.specs.Record.{Book}
 use Rattle.record.specs.Run.{Step, can_step, goes, is_run, length_of}
-use Rattle.record.specs.Worth.{stay_worth, stay_worths, run_worth, price_of}
+use Rattle.record.specs.Worth.{stay_worths, run_worth, price_of}
 use Rattle.record.proofs.PriceLaws.{priced_parts}
 use Rattle.walks.specs.Runs as walk
 use Rattle.walks.specs.Runs.{Leg, Goes, later as after, total, Run}
@@ -84,7 +84,7 @@ module _ (p : Pattern) (sound : sound_of p ≡ true) where
   to-goes k cs [] h = true_T _ h
   to-goes k cs (x ∷ xs) h =
       let a = both (can_step p k cs x) _ h in
-      (leg k cs x a.0, rw (after-later p x.stay cs) (to-goes _ _ xs a.1))
+      (leg k cs x a.0, rw (after-later p x.stay cs) (to-goes (edge_at p x.edge).to (after_resets (edge_at p x.edge) (later x.stay cs)) xs a.1))
 
   plain-total : (xs : List Step) → total (map plain xs) ≡ length_of xs
   unfolding length_of
