@@ -8,7 +8,7 @@ use mathlib.Core.Bool.{Bool, true, false, cond}
 use lib.Dec.{T}
 use lib.ListN.{get_or}
 use lib.IntN.{ℤ, pos}
-use Rattle.weighting.specs.Weightings.{weighting_of}
+use Rattle.weighting.proofs.Weightings.{weighting_of}
 use Rattle.pattern.specs.declared.Pattern.{Pattern}
 use Rattle.record.specs.Record.{Book}
 use Rattle.best.specs.Best.{Chosen, chosen_with, chosen_to, score_at, length_at}

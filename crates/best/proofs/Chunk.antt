@@ -9,7 +9,7 @@ use mathlib.Core.Bool.{true}
 use borrow.Author.Tests.{eq-eqb, le-leb, le-ltb}
 use lib.ListN.{length, get_or, replicate, length-append, length-replicate}
 use lib.IntN.{ℤ, pos}
-use Rattle.weighting.specs.Weightings.{weighting_of}
+use Rattle.weighting.proofs.Weightings.{weighting_of}
 use Rattle.pattern.specs.declared.Pattern.{Pattern}
 use Rattle.pattern.specs.declared.Refusal.{Refusal}
 use Rattle.pattern.specs.Sound.{sound_of}

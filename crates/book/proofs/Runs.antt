@@ -11,7 +11,7 @@ use lib.ListN.{length, get_or, length-take}
 use lib.Seq.{get_or-take}
 use lib.IntN.{ℤ}
 use Rattle.integers.proofs.Tests.{T_true, true_T, both_true}
-use Rattle.weighting.specs.Weightings.{weighting_of}
+use Rattle.weighting.proofs.Weightings.{weighting_of}
 use Rattle.pattern.specs.declared.Edge.{Edge}
 use Rattle.pattern.specs.declared.Pattern.{Pattern}
 use Rattle.pattern.specs.Sound.{no_edge, sound_of}

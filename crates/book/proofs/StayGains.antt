@@ -12,7 +12,7 @@ use lib.IntN.{ℤ, pos, ◌+ℤ◌, +ℤ_idr}
 use Rattle.weighting.specs.declared.Weighing.{Weighing}
 use Rattle.weighting.specs.declared.Weighing.TheVariants.{Margin, Sum}
 use Rattle.weighting.specs.Weighting.{combine_from, combine_all}
-use Rattle.weighting.specs.Weightings.{margin, sum, weighting_of}
+use Rattle.weighting.proofs.Weightings.{margin, sum, weighting_of}
 use Rattle.pattern.specs.declared.Pattern.{Pattern}
 use Rattle.pattern.specs.InUse.{place_at}
 use Rattle.pattern.specs.Distance.{Sample, place_worth}

@@ -3,7 +3,7 @@
 use Rattle.std.specs.Prelude.{ℕ, ◌+◌, ◌≡◌, List, [], ◌∷◌, ◌++◌, true, cond, eqb, ℤ}
 use Rattle.std.proofs.Math.Option.{Option, none, some}
 use Rattle.weighting.specs.Weighting.{combine_all}
-use Rattle.weighting.specs.Weightings.{weighting_of}
+use Rattle.weighting.proofs.Weightings.{weighting_of}
 use Rattle.pattern.specs.declared.Pattern.{Pattern}
 use Rattle.pattern.specs.InUse.{place_at, edge_at}
 use Rattle.pattern.specs.Kinds.{is_start}

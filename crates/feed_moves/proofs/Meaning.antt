@@ -13,7 +13,7 @@ use lib.ListN.{length, take, drop, get_or, length-map, get_or-map}
 use lib.IntN.{ℤ, pos, nat_abs}
 use Rattle.weighting.specs.declared.Weighing.{Weighing}
 use Rattle.weighting.specs.declared.Weighing.TheVariants.{Margin, Sum}
-use Rattle.weighting.specs.Weightings.{weighting_of}
+use Rattle.weighting.proofs.Weightings.{weighting_of}
 use Rattle.weighting.specs.Cell.{mark, held_in}
 use Rattle.weighting.proofs.Cell.{held_in-other}
 use Rattle.pattern.specs.declared.Pattern.{Pattern}

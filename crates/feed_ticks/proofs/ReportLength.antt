@@ -6,7 +6,7 @@ use mathlib.Core.Bool.{Bool, true, false, cond}
 use lib.Dec.{ltb}
 use lib.IntN.{ℤ}
 use Rattle.weighting.specs.declared.Weighing.{Weighing}
-use Rattle.weighting.specs.Weightings.{weighting_of}
+use Rattle.weighting.proofs.Weightings.{weighting_of}
 use Rattle.pattern.specs.declared.Edge.{Edge}
 use Rattle.cells.specs.declared.Layout.{Layout}
 use Rattle.table.specs.declared.View.{View}

@@ -10,7 +10,7 @@ use lib.Dec.{eqb, leb, ltb}
 use lib.ListN.{length, take, drop, replicate, length-append, length-replicate, get_or-eq_default}
 use lib.Seq.{take_at, drop_at}
 use lib.IntN.{ℤ, pos, nat_abs}
-use Rattle.weighting.specs.Weightings.{weighting_of}
+use Rattle.weighting.proofs.Weightings.{weighting_of}
 use Rattle.weighting.specs.Cell.{mark}
 use Rattle.weighting.proofs.Cell.{NoMark}
 use Rattle.pattern.specs.declared.Pattern.{Pattern}

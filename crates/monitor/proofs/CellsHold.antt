@@ -8,7 +8,7 @@ use mathlib.Core.Bool.{true}
 use lib.ListN.{length}
 use lib.IntN.{ℤ}
 use Rattle.weighting.specs.Order.{IsBest}
-use Rattle.weighting.specs.Weightings.{weighting_of}
+use Rattle.weighting.proofs.Weightings.{weighting_of}
 use Rattle.weighting.proofs.Best.{IsBest_iff}
 use Rattle.pattern.specs.declared.Pattern.{Pattern}
 use Rattle.pattern.specs.declared.Refusal.{Refusal}

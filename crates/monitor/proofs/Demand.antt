@@ -8,7 +8,7 @@ use mathlib.Core.Option.{Option, none, some}
 use mathlib.Core.Bool.{true}
 use lib.ListN.{length, drop, get_or, replicate, replicate-append-replicate}
 use lib.IntN.{ℤ, pos}
-use Rattle.weighting.specs.Weightings.{weighting_of}
+use Rattle.weighting.proofs.Weightings.{weighting_of}
 use Rattle.weighting.specs.Shortest.{shortest}
 use Rattle.weighting.proofs.Best.{IsBest_iff}
 use Rattle.pattern.specs.declared.Pattern.{Pattern}

@@ -9,7 +9,7 @@ use lib.ListN.{length, drop, get_or}
 use lib.Seq.{take_at, drop_at}
 use lib.IntN.{ℤ, pos}
 use Rattle.weighting.specs.Order.{IsBest}
-use Rattle.weighting.specs.Weightings.{weighting_of}
+use Rattle.weighting.proofs.Weightings.{weighting_of}
 use Rattle.weighting.specs.Cell.{mark, cell_of, held_in}
 use Rattle.weighting.proofs.Cell.{NoMark, held_in-cell_of, small_no_mark}
 use Rattle.pattern.specs.declared.Pattern.{Pattern}

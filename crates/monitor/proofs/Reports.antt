@@ -8,7 +8,7 @@ use lib.ListN.{length, drop, get_or}
 use lib.IntN.{ℤ, pos}
 use Rattle.weighting.specs.Order.{IsBest}
 use Rattle.weighting.specs.Shortest.{shortest}
-use Rattle.weighting.specs.Weightings.{weighting_of}
+use Rattle.weighting.proofs.Weightings.{weighting_of}
 use Rattle.pattern.specs.declared.Pattern.{Pattern}
 use Rattle.pattern.specs.declared.Refusal.{Refusal}
 use Rattle.walks.specs.Reports.{Reported}

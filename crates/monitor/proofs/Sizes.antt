@@ -12,7 +12,7 @@ use lib.IntN.{ℤ, nat_abs}
 use Rattle.integers.proofs.Ranges.{abs_add, abs_min}
 use Rattle.weighting.specs.declared.Weighing.{Weighing}
 use Rattle.weighting.specs.declared.Weighing.TheVariants.{Margin, Sum}
-use Rattle.weighting.specs.Weightings.{weighting_of}
+use Rattle.weighting.proofs.Weightings.{weighting_of}
 use Rattle.pattern.specs.declared.Pattern.{Pattern}
 use Rattle.pattern.specs.InUse.{place_at}
 use Rattle.pattern.specs.Slots.{all}

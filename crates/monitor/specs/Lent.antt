@@ -5,7 +5,7 @@
 use Rattle.std.specs.Prelude.{ℕ, zero, suc, ◌+◌, ◌<◌, ◌≡◌, ◌⊎◌, List, true, length, drop, get_or, ℤ, pos}
 use Rattle.std.proofs.Math.Option.{none, some}
 use Rattle.weighting.specs.Order.{IsBest}
-use Rattle.weighting.specs.Weightings.{weighting_of}
+use Rattle.weighting.proofs.Weightings.{weighting_of}
 use Rattle.weighting.specs.Cell.{mark, held_in}
 use Rattle.pattern.specs.declared.Pattern.{Pattern}
 use Rattle.pattern.specs.Sound.{sound_of}

@@ -1,7 +1,7 @@
 -- A tick over the table and its report (document 01, 'Monitor tables').
 use Rattle.std.specs.Prelude.{ℕ, ℤ, pos}
 use Rattle.std.proofs.Math.Option.{Option, none, some}
-use Rattle.weighting.specs.Weightings.{weighting_of}
+use Rattle.weighting.proofs.Weightings.{weighting_of}
 use Rattle.pattern.specs.declared.Pattern.{Pattern}
 use Rattle.pattern.specs.Clocks.{Clocks}
 use Rattle.walks.specs.Automaton.{View}

@@ -19,7 +19,7 @@ use Rattle.integers.proofs.Order.{le-through, le-self}
 use Rattle.integers.proofs.Least.{min-left, min-right, min_assoc}
 use Rattle.weighting.specs.Weighting.{combine_from, combine_all}
 use Rattle.weighting.proofs.Worths.{combine_from-append}
-use Rattle.weighting.specs.Weightings.{margin}
+use Rattle.weighting.proofs.Weightings.{margin}
 use Rattle.pattern.specs.declared.Sign.{Sign}
 use Rattle.pattern.specs.declared.Sign.TheVariants.{Less, AtMost, More, AtLeast}
 use Rattle.pattern.specs.declared.Guard.{Guard}

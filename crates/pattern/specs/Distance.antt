@@ -6,7 +6,7 @@ use Rattle.integers.specs.Least.{min_z}
 use Rattle.weighting.specs.declared.Weighing.{Weighing}
 use Rattle.weighting.specs.declared.Weighing.TheVariants.{Margin}
 use Rattle.weighting.specs.Weighting.{combine_all}
-use Rattle.weighting.specs.Weightings.{weighting_of}
+use Rattle.weighting.proofs.Weightings.{weighting_of}
 use Rattle.pattern.specs.declared.Sign.{Sign}
 use Rattle.pattern.specs.declared.Sign.TheVariants.{Less, AtMost, More, AtLeast}
 use Rattle.pattern.specs.declared.Test.{Test}

@@ -12,7 +12,7 @@ use lib.ListN.{length, take, drop, get_or, length-drop}
 use lib.Seq.{drop-drop, get_or-drop, take_all}
 use lib.IntN.{ℤ}
 use Rattle.weighting.specs.Weighting.{combine_from}
-use Rattle.weighting.specs.Weightings.{weighting_of}
+use Rattle.weighting.proofs.Weightings.{weighting_of}
 use Rattle.weighting.proofs.Worths.{combine_from-combine}
 use Rattle.weighting.proofs.Sizes.{unit_size}
 use Rattle.pattern.specs.declared.Pattern.{Pattern}

@@ -1,7 +1,7 @@
 -- How the code goes through a whole run, from its begin to its end place. No promise of a public operation speaks of this.
 use Rattle.std.specs.Prelude.{ℕ, ◌+◌, ◌<◌, ◌≡◌, List, Bool, true, cond, length, take, get_or, ℤ}
 use Rattle.std.proofs.Math.Option.{Option, none, some}
-use Rattle.weighting.specs.Weightings.{weighting_of}
+use Rattle.weighting.proofs.Weightings.{weighting_of}
 use Rattle.pattern.specs.declared.Pattern.{Pattern}
 use Rattle.pattern.specs.InUse.{place_at, edge_at}
 use Rattle.pattern.specs.Kinds.{is_start, is_end}

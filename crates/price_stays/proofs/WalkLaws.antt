@@ -14,7 +14,7 @@ use lib.IntN.{ℤ, nat_abs}
 use Rattle.integers.proofs.Ranges.{abs_fits_64}
 use Rattle.weighting.specs.declared.Weighing.{Weighing}
 use Rattle.weighting.specs.Weighting.{Weighting, combine_from}
-use Rattle.weighting.specs.Weightings.{weighting_of}
+use Rattle.weighting.proofs.Weightings.{weighting_of}
 use Rattle.weighting.proofs.Sizes.{combine-size}
 use Rattle.pattern.specs.declared.Place.{Place}
 use Rattle.pattern.specs.Distance.{Sample, place_worth}

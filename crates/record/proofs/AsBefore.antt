@@ -13,7 +13,7 @@ use Rattle.integers.proofs.Equal.{eq-true}
 use Rattle.weighting.specs.declared.Weighing.{Weighing}
 use Rattle.weighting.specs.declared.Weighing.TheVariants.{Margin}
 use Rattle.weighting.specs.Weighting.{combine_all}
-use Rattle.weighting.specs.Weightings.{margin, weighting_of}
+use Rattle.weighting.proofs.Weightings.{margin, weighting_of}
 use Rattle.pattern.specs.declared.Test.{Test}
 use Rattle.pattern.specs.declared.Place.{Place}
 use Rattle.pattern.specs.declared.Pattern.{Pattern}

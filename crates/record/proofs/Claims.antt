@@ -16,7 +16,7 @@ use Rattle.integers.proofs.Tests.{is_false}
 use Rattle.weighting.specs.declared.Weighing.{Weighing}
 use Rattle.weighting.specs.declared.Weighing.TheVariants.{Margin}
 use Rattle.weighting.specs.Weighting.{combine_from, combine_all}
-use Rattle.weighting.specs.Weightings.{margin, weighting_of}
+use Rattle.weighting.proofs.Weightings.{margin, weighting_of}
 use Rattle.weighting.proofs.Worths.{combine_from-append, combine_from_snoc, combine_from-all}
 use Rattle.pattern.specs.declared.Pattern.{Pattern}
 use Rattle.pattern.specs.Slots.{all}

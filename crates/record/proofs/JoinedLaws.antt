@@ -10,7 +10,7 @@ use Rattle.integers.proofs.Equal.{eq_self, eq-true}
 use Rattle.integers.proofs.Least.{min_assoc, min_self}
 use Rattle.weighting.specs.declared.Weighing.{Weighing}
 use Rattle.weighting.specs.Weighting.{combine_from, combine_all}
-use Rattle.weighting.specs.Weightings.{margin, weighting_of}
+use Rattle.weighting.proofs.Weightings.{margin, weighting_of}
 use Rattle.pattern.specs.declared.Test.{Test}
 use Rattle.pattern.specs.declared.Place.{Place}
 use Rattle.pattern.specs.Slots.{all}

@@ -5,7 +5,7 @@ use Rattle.std.proofs.Math.Option.{some}
 use Rattle.weighting.specs.declared.Weighing.{Weighing}
 use Rattle.weighting.specs.declared.Weighing.TheVariants.{Margin}
 use Rattle.weighting.specs.Weighting.{combine_all}
-use Rattle.weighting.specs.Weightings.{margin, weighting_of}
+use Rattle.weighting.proofs.Weightings.{margin, weighting_of}
 use Rattle.pattern.specs.declared.Sign.TheVariants.{AtMost}
 use Rattle.pattern.specs.declared.Guard.{Guard}
 use Rattle.pattern.specs.declared.Place.{Place}

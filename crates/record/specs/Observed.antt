@@ -1,7 +1,7 @@
 -- What is proved of a stay's observations (document 02, R-3). OneTick and OneTickMore together say what every stay is worth. Proved
 -- in proofs/Observed.
 use Rattle.std.specs.Prelude.{ℕ, ◌+◌, ◌-◌, ◌≤◌, ◌<◌, ◌≡◌, [], Bool, true, false, not, cond, eqb, length, get_or}
-use Rattle.weighting.specs.Weightings.{weighting_of}
+use Rattle.weighting.proofs.Weightings.{weighting_of}
 use Rattle.pattern.specs.declared.Place.{Place}
 use Rattle.pattern.specs.declared.Pattern.{Pattern}
 use Rattle.pattern.specs.Slots.{all}

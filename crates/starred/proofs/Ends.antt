@@ -12,7 +12,7 @@ use lib.IntN.{ℤ, pos}
 use Rattle.integers.specs.Equal.{eq_z}
 use Rattle.integers.proofs.Equal.{eq_self}
 use Rattle.weighting.specs.declared.Weighing.{Weighing}
-use Rattle.weighting.specs.Weightings.{weighting_of}
+use Rattle.weighting.proofs.Weightings.{weighting_of}
 use Rattle.pattern.proofs.SoundLaws.{both}
 use Rattle.record.specs.Run.{Step, length_of}
 use Rattle.record.specs.Worth.{price_of}

@@ -13,7 +13,7 @@ use lib.Seq.{get_or-set_same, get_or-set_other, set-get_or}
 use lib.IntN.{ℤ, pos}
 use Rattle.weighting.specs.declared.Weighing.{Weighing}
 use Rattle.weighting.specs.Order.{choose}
-use Rattle.weighting.specs.Weightings.{weighting_of}
+use Rattle.weighting.proofs.Weightings.{weighting_of}
 use Rattle.weighting.specs.Cell.{mark, cell_of, held_in}
 use Rattle.pattern.specs.declared.Edge.{Edge}
 use Rattle.pattern.specs.Clocks.{Clocks, guards_hold, after_resets}

@@ -16,7 +16,7 @@ use mir.Syntax.{w64}
 use mir.Val.{SFits}
 use Rattle.integers.proofs.Linear.{of_lt, abs_is, negsuc_is}
 use Rattle.weighting.specs.declared.Weighing.{Weighing}
-use Rattle.weighting.specs.Weightings.{weighting_of}
+use Rattle.weighting.proofs.Weightings.{weighting_of}
 use Rattle.weighting.specs.Cell.{mark}
 use Rattle.weighting.proofs.Sizes.{combine-fits}
 use Rattle.pattern.specs.declared.Edge.{Edge}

@@ -10,7 +10,7 @@ use lib.ListN.{get_or}
 use lib.IntN.{ℤ}
 use lib.Signed.{lt_z}
 use Rattle.weighting.specs.declared.Weighing.{Weighing}
-use Rattle.weighting.specs.Weightings.{weighting_of}
+use Rattle.weighting.proofs.Weightings.{weighting_of}
 use Rattle.weighting.specs.Cell.{mark}
 use Rattle.pattern.specs.declared.Edge.{Edge}
 use Rattle.pattern.specs.Clocks.{Clocks, guards_hold}

@@ -4,7 +4,7 @@ use Rattle.std.specs.Prelude.{ℕ, zero, suc, ◌+◌, ◌-◌, ◌*◌, List, B
 use Rattle.std.specs.Int.Signed.{lt_z}
 use Rattle.weighting.specs.declared.Weighing.{Weighing}
 use Rattle.weighting.specs.Order.{choose}
-use Rattle.weighting.specs.Weightings.{weighting_of}
+use Rattle.weighting.proofs.Weightings.{weighting_of}
 use Rattle.weighting.specs.Cell.{mark, cell_of, held_in}
 use Rattle.pattern.specs.declared.Edge.{Edge}
 use Rattle.pattern.specs.Sound.{no_guard}

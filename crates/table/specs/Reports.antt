@@ -4,7 +4,7 @@
 use Rattle.std.specs.Prelude.{ℕ, zero, suc, ◌+◌, List, Bool, false, cond, ◌&&◌, eqb, ltb, get_or, replicate, ℤ, pos}
 use Rattle.std.specs.Int.Signed.{lt_z}
 use Rattle.weighting.specs.declared.Weighing.{Weighing}
-use Rattle.weighting.specs.Weightings.{weighting_of}
+use Rattle.weighting.proofs.Weightings.{weighting_of}
 use Rattle.weighting.specs.Cell.{mark}
 use Rattle.pattern.specs.declared.Edge.{Edge}
 use Rattle.pattern.specs.Clocks.{Clocks, guards_hold}

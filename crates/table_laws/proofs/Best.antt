@@ -15,7 +15,7 @@ use lib.IntN.{ℤ, pos, nat_abs}
 use lib.Signed.{lt_z}
 use Rattle.weighting.specs.declared.Weighing.{Weighing}
 use Rattle.weighting.specs.Order.{IsBest, choose}
-use Rattle.weighting.specs.Weightings.{weighting_of}
+use Rattle.weighting.proofs.Weightings.{weighting_of}
 use Rattle.weighting.specs.Cell.{mark, cell_of, held_in}
 use Rattle.weighting.proofs.Best.{IsBest_iff, choose_best}
 use Rattle.weighting.proofs.Cell.{held_in-mark, held_in-cell_of, held_in_no_mark, choose_no_mark, above-mark, small_no_mark}

@@ -16,7 +16,7 @@ use lib.Signed.{lt_z}
 use Rattle.integers.proofs.Tests.{T_true, true_T, false_T}
 use Rattle.weighting.specs.declared.Weighing.{Weighing}
 use Rattle.weighting.specs.Order.{IsBest}
-use Rattle.weighting.specs.Weightings.{weighting_of}
+use Rattle.weighting.proofs.Weightings.{weighting_of}
 use Rattle.weighting.specs.Shortest.{shortest, shortest_test}
 use Rattle.weighting.specs.Cell.{mark, held_in}
 use Rattle.weighting.proofs.Best.{IsBest_iff, IsBest-same}

@@ -14,7 +14,7 @@ use lib.Seq.{get_or-set_same, get_or-set_other, set_out}
 use lib.IntN.{ℤ, pos, nat_abs}
 use Rattle.weighting.specs.declared.Weighing.{Weighing}
 use Rattle.weighting.specs.Order.{IsBest}
-use Rattle.weighting.specs.Weightings.{weighting_of}
+use Rattle.weighting.proofs.Weightings.{weighting_of}
 use Rattle.weighting.specs.Cell.{mark, cell_of, held_in}
 use Rattle.weighting.proofs.Cell.{cell_of-held_in}
 use Rattle.weighting.proofs.Sizes.{unit_size, combine-size}

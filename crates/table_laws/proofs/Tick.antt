@@ -14,7 +14,7 @@ use lib.ListN.{length, get_or}
 use lib.IntN.{ℤ}
 use Rattle.integers.proofs.Tests.{T_true, true_T}
 use Rattle.weighting.specs.declared.Weighing.{Weighing}
-use Rattle.weighting.specs.Weightings.{weighting_of}
+use Rattle.weighting.proofs.Weightings.{weighting_of}
 use Rattle.weighting.specs.Cell.{mark, held_in}
 use Rattle.weighting.proofs.Best.{IsBest_iff}
 use Rattle.weighting.proofs.Cell.{held_in-mark, held_in-other, small_no_mark}

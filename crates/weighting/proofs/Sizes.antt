@@ -12,7 +12,7 @@ use Rattle.integers.proofs.Ranges.{abs_add, abs_min, abs_fits}
 use Rattle.weighting.specs.declared.Weighing.{Weighing}
 use Rattle.weighting.specs.declared.Weighing.TheVariants.{Margin, Sum}
 use Rattle.weighting.specs.Weighting.{combine_from}
-use Rattle.weighting.specs.Weightings.{weighting_of, margin}
+use Rattle.weighting.proofs.Weightings.{weighting_of, margin}
 
 -- ---- two
 

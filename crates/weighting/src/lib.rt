@@ -6,7 +6,7 @@ ghost use Rattle.std.specs.Int.{w64};
 ghost use Rattle.std.proofs.Common.{SFits};
 ghost use Rattle.integers.specs.Least.{min_z};
 ghost use Rattle.weighting.specs.Order.{choose};
-ghost use Rattle.weighting.specs.Weightings.{weighting_of};
+ghost use Rattle.weighting.specs.Weightings.{scale_of};
 ghost use Rattle.weighting.specs.Cell.{cell_of, held_in};
 
 // The two weightings that a pattern can name (document 01, 'Pattern text', line 1).
@@ -21,7 +21,7 @@ pub const MARK: i64 = -9223372036854775808;
 
 // The empty run's worth: 2,000,001 in margin, 0 in sum.
 pub fn unit(w: Weighing) -> i64
-    ensures { result ≡ (weighting_of w).unit }
+    ensures { result ≡ (scale_of w).unit }
 {
     match w {
         Weighing::Margin => 2000001,
@@ -31,8 +31,8 @@ pub fn unit(w: Weighing) -> i64
 
 // The lesser in margin, the sum in sum.
 pub fn combine(w: Weighing, a: i64, b: i64) -> i64
-    requires { SFits w64 ((weighting_of w).combine a b) }
-    ensures { result ≡ (weighting_of w).combine a b }
+    requires { SFits w64 ((scale_of w).combine a b) }
+    ensures { result ≡ (scale_of w).combine a b }
 {
     match w {
         Weighing::Margin => lesser(a, b),
@@ -48,7 +48,7 @@ pub fn lesser(a: i64, b: i64) -> i64
 
 // Is a at least as good as b?
 pub fn at_least(w: Weighing, a: i64, b: i64) -> bool
-    ensures { result ≡ (weighting_of w).order.at_least a b }
+    ensures { result ≡ (scale_of w).order.at_least a b }
 {
     match w {
         Weighing::Margin => b <= a,
@@ -67,7 +67,7 @@ fn one_of(on: bool, a: i64, b: i64) -> i64
 // The cell after one more worth was offered to it. The mark is no worth: who offers it empties the cell or leaves it. No
 // branch, since which of the two is better cannot be foretold.
 pub fn choose(w: Weighing, cell: i64, worth: i64) -> i64
-    ensures { result ≡ cell_of (choose (weighting_of w).order (held_in cell) worth) }
+    ensures { result ≡ cell_of (choose (scale_of w).order (held_in cell) worth) }
 {
     let keeps = at_least(w, cell, worth);
     one_of((MARK < cell) & keeps, cell, worth)

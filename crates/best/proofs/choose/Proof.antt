@@ -4,7 +4,7 @@ use borrow.Author.Rules.{rules}
 use mir.Syntax.{w64}
 use mir.Val.{to_z, of_z}
 use mir.Facts.{to_z-of_z}
-use Rattle.weighting.specs.Weightings.{weighting_of}
+use Rattle.weighting.proofs.Weightings.{weighting_of}
 use Rattle.best.proofs.Choices.{no_run, first_run, kept_run, better-run}
 use Rattle.best.proofs.choose.Statement.{statement}
 use Rattle.best.proofs.choose.Tie as tie

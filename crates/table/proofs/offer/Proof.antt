@@ -7,7 +7,7 @@ use mir.Syntax.{w64}
 use mir.Val.{to_z, of_z}
 use mir.Facts.{to_z-of_z}
 use Rattle.weighting.specs.Cell.{cell_of, held_in}
-use Rattle.weighting.specs.Weightings.{weighting_of}
+use Rattle.weighting.proofs.Weightings.{weighting_of}
 use Rattle.weighting.specs.Order.{choose}
 use Rattle.table.proofs.offer.Statement.{statement}
 use Rattle.table.proofs.offer.Tie as tie

@@ -6,7 +6,7 @@ use lib.ListN.{length}
 use mir.Syntax.{w64}
 use mir.Val.{to_z, of_z}
 use mir.Facts.{to_z-of_z}
-use Rattle.weighting.specs.Weightings.{weighting_of}
+use Rattle.weighting.proofs.Weightings.{weighting_of}
 use Rattle.cells.specs.Index.{Placed}
 use Rattle.cells.proofs.Digits.{ticked-within, ticked-long}
 use Rattle.cells.proofs.Blocks.{block_in}

@@ -2,7 +2,7 @@
 use Rattle.std.proofs.Common.{◌∙◌, SFits}
 use Rattle.std.specs.Int.{w64}
 use mir.Facts.{to_z-of_z}
-use Rattle.weighting.specs.Weightings.{weighting_of}
+use Rattle.weighting.specs.Weightings.{scale_of}
 use Rattle.weighting.proofs.Cell.{chosen_is}
 use Rattle.weighting.proofs.choose.Goals as goal
 
@@ -12,4 +12,4 @@ returns c =
     let q = to_z-of_z c.ranges.worth in
     let k = simp (p, q) at c.at_least-keeps.ensures in
     let e = simp (p, q, k) at c.one_of.ensures in
-    to_z-of_z {w = w64} (record { sfits = c.one_of.type_inv }) ∙ e ∙ chosen_is (weighting_of c.args.w).order c.args.cell c.args.worth c.ranges.cell
+    to_z-of_z {w = w64} (record { sfits = c.one_of.type_inv }) ∙ e ∙ chosen_is (scale_of c.args.w).order c.args.cell c.args.worth c.ranges.cell

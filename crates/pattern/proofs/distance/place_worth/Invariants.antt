@@ -8,7 +8,7 @@ use mir.Syntax.{w64}
 use mir.Val.{to_z, of_z}
 use mir.Facts.{to_z-of_z}
 use Rattle.integers.proofs.Ranges.{abs_fits_64}
-use Rattle.weighting.specs.Weightings.{weighting_of}
+use Rattle.weighting.proofs.Weightings.{weighting_of}
 use Rattle.weighting.proofs.Sizes.{unit_size, combine-size}
 use Rattle.pattern.specs.Distance.{distances_of, place_worth}
 use Rattle.pattern.proofs.ListLaws.{take-in_use}
