@@ -1,5 +1,6 @@
 // The edges of a pattern as numbers, made once for all ticks of a call, so that a move along one needs no edge.
 #![tactic(auto)]
+
 ghost use Rattle.std.specs.Prelude.{◌≡◌, cond, ℕ, ◌+◌, ◌≤◌, ◌<◌, min, max, get_or};
 ghost use Rattle.steps.specs.Steps.{step_at, in_span, goes_in, kept_by, after_in, edge_in, Fit, Steps};
 ghost use Rattle.steps.specs.Made.{narrowed, narrowed_on, span_of, number_of};
@@ -146,7 +147,7 @@ pub fn goes(steps: &[usize; 416], i: usize, clocks: [usize; 4]) -> bool
     a & (b & (c & d))
 }
 
-fn kept_by_lem(reset: usize, value: usize) -> usize
+fn kept_by(reset: usize, value: usize) -> usize
     ensures { result ≡ kept_by reset value }
 {
     if reset == 0 { value } else { 0 }
@@ -158,10 +159,10 @@ pub fn after(steps: &[usize; 416], i: usize, clocks: [usize; 4]) -> [usize; 4]
     ensures { result ≡ after_in steps.now i clocks }
 {
     let at = i * 13;
-    let a = kept_by_lem(steps[at + 8], clocks[0]);
-    let b = kept_by_lem(steps[at + 9], clocks[1]);
-    let c = kept_by_lem(steps[at + 10], clocks[2]);
-    let d = kept_by_lem(steps[at + 11], clocks[3]);
+    let a = kept_by(steps[at + 8], clocks[0]);
+    let b = kept_by(steps[at + 9], clocks[1]);
+    let c = kept_by(steps[at + 10], clocks[2]);
+    let d = kept_by(steps[at + 11], clocks[3]);
     [a, b, c, d]
 }
 
