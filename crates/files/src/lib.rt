@@ -1,73 +1,100 @@
-// A file in and lines out, over C's functions. A call that moves a part of what was asked, that a signal ends or that finds a
-// pipe not ready is gone on with; the kit's `io` takes the last two as failures. One that fails is told on standard error. No
-// contract can say which bytes C moves: what is proved is that the counts lie within the buffers and that each function ends.
+// A file in and lines out, over std's files and streams. A call that moves a part of what was asked, that a signal ends or that
+// finds a pipe not ready is gone on with. One that fails is told on standard error. No contract can say which bytes the system
+// moves: what is proved is that the counts lie within the buffers and that each function ends.
 #![tactic(auto)]
+
 ghost use Rattle.std.specs.Prelude.{◌≤◌, length};
-ghost use Rattle.io.specs.Counts.{IsPrefixLen};
+ghost use Rattle.files.specs.Counts.{IsPrefixLen};
 
-use libc::{STDERR_FILENO, STDOUT_FILENO};
+use std::fs::{File, OpenOptions};
+use std::io::{ErrorKind, Read, Write};
+use std::{fs, io, str, thread};
 
-// Whether the call that failed just now is to be made again: a signal ended it, or a pipe was not ready that lets nobody wait.
-// Then another process goes first.
-fn is_passing() -> bool {
-    let error = os::errno();
-    if error == libc::EAGAIN {
-        libc::sched_yield();
+// Whether the call that failed so is to be made again: a signal ended it, or a pipe was not ready that lets nobody wait. Then
+// another process goes first.
+fn is_passing(error: &io::Error) -> bool {
+    let kind = error.kind();
+    if kind == ErrorKind::WouldBlock {
+        thread::yield_now();
         return true;
     }
-    error == libc::EINTR
+    kind == ErrorKind::Interrupted
+}
+
+// Writes a line to standard error: what failed, a colon and the error in words. std puts the system's number of an error behind
+// them, as in `(os error 2)`; that is left out.
+fn fail(rt: &HostRuntime, what: &str, error: &io::Error) {
+    let mut text = [0u8; 256];
+    let mut rest = &mut text[..];
+    let _ = write!(rest, "{error}");
+    let free = rest.len();
+    let length = text.len().saturating_sub(free);
+    let words = str::from_utf8(&text[..length]).unwrap_or("");
+    let words = match words.split_once(" (os error ") {
+        Some((words, _)) => words,
+        None => words,
+    };
+    let _ = eprintln!(rt; "{what}: {words}");
 }
 
 // A proved loop has to end, and nothing says that signals do: each loop here counts its turns down, from a number that no run
 // uses up.
 const TURNS: u64 = u64::MAX;
 
-// The file opened for reading, or a number below 0.
-fn open(path: &[u8]) -> i32 {
-    let mut fd = os::open_read(path);
-    let mut turns = TURNS;
-    while turns > 0 && fd < 0 && is_passing() {
-        fd = os::open_read(path);
-        turns -= 1;
+// The file opened for reading, or why it is not.
+fn open(rt: &HostRuntime, path: &str) -> io::Result<File> {
+    for _ in 0..TURNS {
+        match File::open(rt, path) {
+            Err(error) if is_passing(&error) => {}
+            opened => return opened,
+        }
     }
-    fd
+    File::open(rt, path)
 }
 
-// How far a file has been read: the bytes at the start of its buffer, whether more may come, whether a read failed.
+// How far a file has been read: the bytes at the start of its buffer, whether more may come, why a read failed if one did.
 #[derive(Clone, Copy)]
 struct Reading {
     at: usize,
     more: bool,
-    failed: bool,
+    failure: Option<io::Error>,
 }
 
 // One more read, into the rest of the buffer. It moves nothing at the file's end, and where nothing is left of the buffer.
-fn read_on(fd: i32, buffer: &mut [u8], at: usize) -> Reading
+fn read_on(file: &mut File, buffer: &mut [u8], at: usize) -> Reading
     requires { at ≤ length buffer.old }
     ensures { result.at ≤ length buffer.new }
 {
     let rest = &mut buffer[at..];
-    let got = libc::read(fd, rest);
-    let failed = got < 0 && !is_passing();
-    Reading {
-        at: at + io::count(got, rest),
-        more: got != 0 && !failed,
-        failed: failed,
+    match file.read(rest) {
+        Ok(got) => Reading {
+            at: at + got,
+            more: got != 0,
+            failure: None,
+        },
+        Err(error) => {
+            let passing = is_passing(&error);
+            Reading {
+                at: at,
+                more: passing,
+                failure: if passing { None } else { Some(error) },
+            }
+        }
     }
 }
 
 // To the file's end, or until the buffer is full.
-fn read_all(fd: i32, buffer: &mut [u8]) -> Reading
+fn read_all(file: &mut File, buffer: &mut [u8]) -> Reading
     ensures { IsPrefixLen result.at buffer.new }
 {
     let mut reading = Reading {
         at: 0,
         more: true,
-        failed: false,
+        failure: None,
     };
     let mut turns = TURNS;
     while turns > 0 && reading.more {
-        reading = read_on(fd, buffer, reading.at);
+        reading = read_on(file, buffer, reading.at);
         turns -= 1;
     }
     reading
@@ -80,25 +107,29 @@ pub struct Taken {
     pub whole: bool,
 }
 
-// The file's bytes, as many as the buffer takes. A file that cannot be opened counts as empty, and so does a folder, which C
-// opens and then cannot read.
-pub fn read_file(path: &[u8], buffer: &mut [u8]) -> Taken
+// The file's bytes, as many as the buffer takes. A file that cannot be opened counts as empty, and so does a folder, which the
+// system opens and then cannot read.
+pub fn read_file(rt: &HostRuntime, path: &str, buffer: &mut [u8]) -> Taken
     ensures { IsPrefixLen result.length buffer.new }
 {
-    let fd = open(path);
-    if fd < 0 {
-        os::fail(path);
-        return Taken {
-            length: 0,
-            whole: true,
-        };
-    }
-    let reading = read_all(fd, buffer);
-    let whole = !reading.failed || os::errno() == libc::EISDIR;
-    if reading.failed {
-        os::fail(path);
-    }
-    libc::close(fd);
+    let mut file = match open(rt, path) {
+        Ok(file) => file,
+        Err(error) => {
+            fail(rt, path, &error);
+            return Taken {
+                length: 0,
+                whole: true,
+            };
+        }
+    };
+    let reading = read_all(&mut file, buffer);
+    let whole = match reading.failure {
+        None => true,
+        Some(error) => {
+            fail(rt, path, &error);
+            error.kind() == ErrorKind::IsADirectory
+        }
+    };
     Taken {
         length: reading.at,
         whole: whole,
@@ -112,43 +143,69 @@ struct Writing {
     failed: bool,
 }
 
-// One more write, of the bytes from a place on. One that takes nothing has failed, though C has no error for it.
-fn write_on(bytes: &[u8], at: usize) -> Writing
+// One more write, of the bytes from a place on. One that takes nothing has failed, though the system has no error for it.
+fn write_on(rt: &HostRuntime, bytes: &[u8], at: usize) -> Writing
     requires { at ≤ length bytes.now }
     ensures { result.at ≤ length bytes.now }
 {
     let rest = &bytes[at..];
-    let got = libc::write(STDOUT_FILENO, rest);
-    let failed = got < 0 && !is_passing();
-    if failed {
-        os::fail(b"standard output");
-    }
-    if got == 0 {
-        io::write_all(STDERR_FILENO, b"standard output: nothing is taken\n");
-    }
-    Writing {
-        at: at + io::count(got, rest),
-        failed: failed || got == 0,
+    match rt.stdout().write(rest) {
+        Ok(got) => {
+            if got == 0 {
+                let _ = eprintln!(rt; "standard output: nothing is taken");
+            }
+            Writing {
+                at: at + got,
+                failed: got == 0,
+            }
+        }
+        Err(error) => {
+            let failed = !is_passing(&error);
+            if failed {
+                fail(rt, "standard output", &error);
+            }
+            Writing {
+                at: at,
+                failed: failed,
+            }
+        }
     }
 }
 
 // All the bytes to standard output; or false, and then some of them may be written.
-pub fn write_out(bytes: &[u8]) -> bool {
+pub fn write_out(rt: &HostRuntime, bytes: &[u8]) -> bool {
     let mut writing = Writing {
         at: 0,
         failed: false,
     };
     let mut turns = TURNS;
     while turns > 0 && writing.at < bytes.len() && !writing.failed {
-        writing = write_on(bytes, writing.at);
+        writing = write_on(rt, bytes, writing.at);
         turns -= 1;
     }
     writing.at == bytes.len()
 }
 
+// What stands behind standard output, if it is a file that can be opened once more.
+const OUTPUT: &str = "/proc/self/fd/1";
+
+// The file behind standard output is to be kept as it was written. Another kind of output keeps nothing.
+fn sync_out(rt: &HostRuntime) -> io::Result<()> {
+    match fs::metadata(rt, OUTPUT) {
+        Ok(about) if about.is_file() => {}
+        _ => return Ok(()),
+    }
+    match OpenOptions::new().append(true).open(rt, OUTPUT) {
+        Ok(file) => file.sync_data(),
+        Err(_) => Ok(()),
+    }
+}
+
 // The end of the output. Some file systems tell only here that a write failed. A signal is no such failure.
-pub fn close_out() {
-    if libc::close(STDOUT_FILENO) < 0 && !is_passing() {
-        os::fail(b"standard output");
+pub fn close_out(rt: &HostRuntime) {
+    if let Err(error) = sync_out(rt) {
+        if !is_passing(&error) {
+            fail(rt, "standard output", &error);
+        }
     }
 }
