@@ -1,5 +1,6 @@
 // Words and numbers at a position of a lent text, as the definitions of crate pattern_text read them from there on.
 #![tactic(auto)]
+
 ghost use Rattle.std.specs.Prelude.{◌≡◌, ◌≤◌, ◌<◌, length};
 ghost use Rattle.text_scan.specs.Scan.{
   word_at,
