@@ -6,7 +6,7 @@ use mathlib.Core.Logic.{◌⊎◌}
 use mathlib.Core.List.{List, [], ◌∷◌, ◌++◌}
 use mathlib.Core.Option.{Option, none, some}
 use mathlib.Core.Bool.{true}
-use lib.ListN.{length, drop, get_or, replicate, replicate-append-replicate}
+use lib.ListN.{length, get_or, replicate, replicate-append-replicate}
 use lib.IntN.{ℤ, pos}
 use Rattle.weighting.proofs.Weightings.{weighting_of}
 use Rattle.weighting.specs.Shortest.{shortest}

@@ -1,5 +1,6 @@
 // The monitor's state and what its calls answer. Opening and feeding are defined in specs/; the crate feed has the code.
 #![tactic(auto)]
+
 use pattern::Refusal;
 
 // What the monitor keeps between calls beside its tables: ticks so far, and the last values, zeros before the first piece
