@@ -3,6 +3,7 @@
 // just entered is noted for the report as it is offered. A block that a worth enters along an edge has its flag raised; that
 // of the block that it stays in was raised before, once for all worths of a block (`table_blocks`, `pass`).
 #![tactic(auto)]
+
 pub mod report;
 
 ghost use Rattle.std.specs.Prelude.{◌≡◌, cond, ◌+◌, ◌≤◌, ◌<◌, length};
