@@ -1,5 +1,6 @@
 // What a stay is worth, piece by piece.
 #![tactic(auto)]
+
 ghost use Rattle.std.specs.Prelude.{◌≡◌, ◌+◌, ◌*◌, ◌≤◌, ◌<◌, length};
 ghost use Rattle.record.specs.Record.{sample_at};
 ghost use Rattle.price_stays.specs.Walk.{seen_at, joins_to, with_piece, Observes, Walks, Turned, Stayed};
