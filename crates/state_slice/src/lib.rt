@@ -1,6 +1,7 @@
 // The monitor's state as a host in C lends it: a slice of numbers, entry 0 the ticks, entries 1 to 8 the last values.
 // Further entries are untouched.
 #![tactic(auto)]
+
 ghost use Rattle.std.specs.Prelude.{◌≡◌, true, ◌≤◌, length, pos, nat_abs};
 ghost use Rattle.pattern.specs.Slots.{all};
 ghost use Rattle.state_slice.specs.Slice.{is_ticks, is_value, holds_state, state_in, with_state};
