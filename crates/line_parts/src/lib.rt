@@ -1,5 +1,6 @@
 // The parts of a line of a pattern text at a position: signs, kinds, weighings, tests, guards.
 #![tactic(auto)]
+
 ghost use Rattle.std.specs.Prelude.{◌≡◌, ◌&&◌, ◌≤◌, min, leb, ltb, length};
 ghost use Rattle.line_parts.specs.Parts.{sign_at, kind_at, weighing_at, side_at, band_at, test_at, guard_at, spaced_at};
 
