@@ -1,6 +1,7 @@
 // Bytes, words and numbers put into a buffer, each at a position and answering the position after it. What does not fit
 // is left out, so that nothing here asks for room.
 #![tactic(auto)]
+
 ghost use Rattle.std.specs.Prelude.{◌+◌, ◌%◌, ◌≡◌, [], ◌∷◌, ◌++◌, nat_abs};
 ghost use Rattle.pattern_text.specs.Form.{write_ℤ};
 ghost use Rattle.pattern_text.specs.Numeral.{decimal};
