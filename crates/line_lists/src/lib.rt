@@ -1,5 +1,6 @@
 // The lists of a line of a pattern text at a position: a place's tests, an edge's guards and resets.
 #![tactic(auto)]
+
 ghost use Rattle.std.specs.Prelude.{◌≡◌, ◌≤◌, length};
 ghost use Rattle.pattern.specs.Sound.{guard_in_range};
 ghost use Rattle.text_scan.specs.Scan.{cap};

@@ -1,0 +1,14 @@
+-- `further_at` meets its contract: what is answered in the end stays the same from turn to turn.
+use Prim.Native.Nat.{◌≤◌}
+use mathlib.Core.Path.{◌≡◌}
+use lib.ListN.{length}
+use Rattle.line_lists.specs.ResetList.{further_at}
+use Rattle.line_lists.proofs.Gather.{left}
+use Rattle.line_lists.proofs.ResetsLaws.{further_from}
+use Rattle.line_lists.proofs.further_at.Given as goal
+
+abbrev pub invariant-loop-s : goal.invariant-loop-s
+invariant-loop-s l = (l.s.next ≤ length l.text) × (further_at l.clocks l.text l.initial.s.resets l.at ≡ further_from l.clocks l.text l.initial.s.resets l.s)
+
+abbrev pub decreases-loop-s : goal.decreases-loop-s
+decreases-loop-s l = left l.text l.s.more l.s.next

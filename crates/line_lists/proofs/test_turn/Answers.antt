@@ -1,0 +1,10 @@
+-- `test_turn` meets its contract.
+use mathlib.Core.Path.{sym, ◌∙◌}
+use Rattle.line_lists.proofs.TestsLaws.{turned-end, turned_more}
+use Rattle.line_lists.proofs.test_turn.Goals as goal
+
+pub returns-in-Broken : goal.returns-in-Broken
+returns-in-Broken c = turned-end _ _ c.args.s (sym c.in-Broken.is ∙ c.test_at.ensures)
+
+pub returns-in-Value : goal.returns-in-Value
+returns-in-Value c = turned_more _ _ c.args.s _ _ _ (sym c.in-Value.is ∙ c.test_at.ensures) c.add_test-tests.ensures
