@@ -1,5 +1,6 @@
 // The moves of all occupied cells of a block (one length, stage and place) of a monitor's table in a tick.
 #![tactic(auto)]
+
 ghost use Rattle.std.specs.Prelude.{◌≡◌, true, false, ◌+◌, ◌≤◌, ◌<◌, length};
 ghost use Rattle.std.specs.Int.Signed.{lt_z};
 ghost use Rattle.weighting.specs.Cell.{mark};
