@@ -1,5 +1,6 @@
 // A run, step by step.
 #![tactic(auto)]
+
 ghost use Rattle.std.specs.Prelude.{◌≡◌, length};
 ghost use Rattle.pattern.specs.Clocks.{later};
 ghost use Rattle.record.specs.Run.{clocks_after, steps_of};
