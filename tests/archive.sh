@@ -3,7 +3,8 @@
 . tests/part.sh
 build_archive() {
     local said
-    said=$(rt staticlib host 2>&1) || { echo "$said"; return 1; }
+    said=$(cd crates/host && rt lib 2>&1) || { echo "$said"; return 1; }
+    mkdir -p target/staticlib && cp crates/host/out/libhost.a target/staticlib/libhost.a
 }
 [ -e target/staticlib/libhost.a ] || rm -f target/tests/archive.done
-part archive build_archive crates crates.txt
+part archive build_archive crates/*/src crates/*/specs crates/*/proofs crates.txt

@@ -48,7 +48,7 @@ build_watched() {
     rm -rf "$cases/watched" && mkdir "$cases/watched" || return
     "$cases/each" "$cases/watched" "$PWD/target/bin/watch" < <(folders) 2>"$cases/watched.stderr" && complete "$cases/watched"
 }
-[ -x target/bin/watch ] || { echo "tests: target/bin/watch is not there (rt check watch)"; exit 1; }
+[ -x target/bin/watch ] || { echo "tests: target/bin/watch is not there (.ci/run, or ./score)"; exit 1; }
 part cases build_cases tests/second tests/cases.sh tests/each.c
 part watched build_watched target/bin/watch target/tests/cases.done
 
