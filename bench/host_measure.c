@@ -1,8 +1,8 @@
 /* host_measure.c: how long pattern_check and pattern_cells take for a pattern of 3,700 bytes, beside a C loop of a few lines
  * that only counts the brackets of the same bytes. It is no test; run it on a machine that does nothing else:
  *
- *     rt staticlib host
- *     gcc -O2 -Wall -Wextra -Iinclude bench/host_measure.c target/staticlib/libhost.a -o measure && ./measure
+ *     (cd crates/host && rt lib)
+ *     gcc -O2 -Wall -Wextra -Iinclude bench/host_measure.c crates/host/out/libhost.a -o measure && ./measure
  *
  * Each figure is the least of many rounds, so what else the machine does counts little. */
 #define _POSIX_C_SOURCE 199309L

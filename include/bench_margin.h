@@ -1,8 +1,8 @@
 /* bench_margin.h: what a host program written in C calls of the bench margin monitor.
  *
- * Build the library with `rt staticlib host` and link target/staticlib/libhost.a (x86-64 Linux):
+ * Build the library with `rt lib` in crates/host and link crates/host/out/libhost.a (x86-64 Linux):
  *
- *     cc -Iinclude program.c target/staticlib/libhost.a
+ *     cc -Iinclude program.c crates/host/out/libhost.a
  *
  * examples/c is a program that runs a bench with it. In short:
  *
