@@ -1,5 +1,6 @@
 // A pattern's text put into a buffer, form by form and line by line (document 01, 'Pattern text').
 #![tactic(auto)]
+
 ghost use Rattle.pattern.specs.InUse.{tests_of, guards_of, places_of, edges_of};
 ghost use Rattle.pattern_text.specs.Bytes.{bytes};
 ghost use Rattle.pattern_text.specs.Form.{write_many};

@@ -1,0 +1,14 @@
+-- The loop has put the first i edges.
+use Prim.Native.Nat.{◌≤◌, ◌-◌, min}
+use mathlib.Core.Path.{◌≡◌}
+use lib.ListN.{take}
+use Rattle.pattern_text.specs.Form.{write_many}
+use Rattle.text_put.specs.Put.{Put}
+use Rattle.line_write.specs.Lines.{edge_text}
+use Rattle.line_write.proofs.put_edges.Given as goal
+
+abbrev pub invariant-loop-i : goal.invariant-loop-i
+invariant-loop-i l = (l.i ≤ l.count) × (l.count ≡ min l.p.edgecount 32) × Put l.initial.text l.text l.at l.n (write_many edge_text (take l.i l.p.edges))
+
+abbrev pub decreases-loop-i : goal.decreases-loop-i
+decreases-loop-i l = l.count - l.i
