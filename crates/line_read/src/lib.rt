@@ -1,5 +1,6 @@
 // The three kinds of line of a pattern text at a position, each with its line feed.
 #![tactic(auto)]
+
 ghost use Rattle.std.specs.Prelude.{◌≡◌, ◌≤◌, length};
 ghost use Rattle.line_read.specs.Lines.{header_at, place_at, edge_at};
 
