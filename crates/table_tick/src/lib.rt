@@ -1,6 +1,7 @@
 // One tick over a monitor's table in place, with its report, and the opening of a table (document 01, 'Monitor tables').
 // A tick moves length n to n + 1, so row n + 1 is cleared and row n offered into it, from the longest to the shortest.
 #![tactic(auto)]
+
 ghost use Rattle.std.specs.Prelude.{◌≡◌, false, cond, ◌+◌, ◌*◌, ◌≤◌, ◌<◌, length, set};
 ghost use Rattle.weighting.specs.Cell.{mark};
 ghost use Rattle.cells.specs.Layout.{Laid, cells_in};
