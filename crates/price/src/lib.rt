@@ -1,5 +1,6 @@
 // Pricing a run laid out edge by edge: what it is refused for, where it begins, its steps, and what it comes to.
 #![tactic(auto)]
+
 ghost use Rattle.std.specs.Prelude.{◌≡◌, ◌≤◌, ◌<◌, length};
 ghost use Rattle.pattern.specs.InUse.{place_at, edge_at};
 ghost use Rattle.record.specs.Record.{total, book_of};

@@ -1,0 +1,66 @@
+-- `score` hands the part of the record from the begin's piece on.
+use native.Mathlib.Omega.{arith}
+use mathlib.Core.Path.{◌≡◌, ap, ◌∙◌}
+use Prim.Native.Nat.{ℕ, ◌*◌, ◌≤◌, ◌<◌}
+use mathlib.Core.List.{List}
+use mathlib.Core.Bool.{true}
+use lib.IntN.{ℤ}
+use Rattle.record.specs.Record.{record_sound}
+use lib.ListN.{length}
+use Rattle.price.specs.Price.{scored}
+use Rattle.record.proofs.RecordLaws.{parts, sample-within}
+use Rattle.price.proofs.WholeLaws.{steps, rest_of, at_begin, held-at-begin, outcome-at-begin}
+use Rattle.price.proofs.score.Goals as goal
+
+-- the begin's piece has its values in the slice
+values-within : (n : ℕ) (ds : List ℕ) (vs : List ℤ) (i : ℕ) → record_sound n ds vs ≡ true → i < length ds → i * n ≤ length vs
+values-within n ds vs i h l = let e = (parts n ds vs h).agree in omega (arith, sample-within i (length ds) n l)
+
+pub find-found-requires : goal.find-found-requires
+find-found-requires c = (steps c.args.durations.now c.args.begin c.args.edges.now c.args.stays.now c.requires.steps).within
+
+pub overflow_mul-at : goal.overflow_mul-at
+overflow_mul-at c = omega (arith, values-within c.args.p.channels c.args.durations.now c.args.values.now c.find-found.result.piece c.requires.kept c.find-found.ensures.inside)
+
+pub ticks-requires : goal.ticks-requires
+ticks-requires c = (parts c.args.p.channels c.args.durations.now c.args.values.now c.requires.kept).few
+
+pub overflow_cast-left : goal.overflow_cast-left
+overflow_cast-left c = let e = (parts c.args.p.channels c.args.durations.now c.args.values.now c.requires.kept).short in let k = c.ticks.ensures in omega arith
+
+pub overflow_sub-left : goal.overflow_sub-left
+overflow_sub-left c = let e = (steps c.args.durations.now c.args.begin c.args.edges.now c.args.stays.now c.requires.steps).within in let k = c.ticks.ensures in omega arith
+
+pub bounds-edges-0 : goal.bounds-edges-0
+bounds-edges-0 c = let e = (steps c.args.durations.now c.args.begin c.args.edges.now c.args.stays.now c.requires.steps).some_step in omega arith
+
+pub offset_bounds-values-at : goal.offset_bounds-values-at
+offset_bounds-values-at c = omega (arith, values-within c.args.p.channels c.args.durations.now c.args.values.now c.find-found.result.piece c.requires.kept c.find-found.ensures.inside)
+
+pub slice_bounds-score_from-count-2 : goal.slice_bounds-score_from-count-2
+slice_bounds-score_from-count-2 c = values-within c.args.p.channels c.args.durations.now c.args.values.now c.find-found.result.piece c.requires.kept c.find-found.ensures.inside
+
+pub slice_bounds-score_from-start-2 : goal.slice_bounds-score_from-start-2
+slice_bounds-score_from-start-2 c = omega (arith, values-within c.args.p.channels c.args.durations.now c.args.values.now c.find-found.result.piece c.requires.kept c.find-found.ensures.inside)
+
+pub score_from-requires : goal.score_from-requires
+score_from-requires c =
+    let s = c in
+    let f = c.find-found in
+    let placed : c.start-s.result ≡ at_begin s.args.p s.args.durations.now s.args.values.now s.args.begin s.args.edges.now s.args.stays.now s.requires f.result f.ensures = c.start-s.ensures ∙ rw c.ticks.ensures in
+    let at = f.result.piece * s.args.p.channels in
+    let has = steps c.args.durations.now c.args.begin c.args.edges.now c.args.stays.now c.requires.steps in
+    record {
+      held = rw (rest_of f.result.piece s.args.durations.now, rest_of at s.args.values.now, placed) (held-at-begin s.args.p s.args.durations.now s.args.values.now s.args.begin s.args.edges.now s.args.stays.now s.requires f.result f.ensures);
+      edges_len = has.same;
+      in_bounds = has.some_step;
+    }
+
+pub returns : goal.returns
+returns c =
+    let s = c in
+    let f = c.find-found in
+    let placed : c.start-s.result ≡ at_begin s.args.p s.args.durations.now s.args.values.now s.args.begin s.args.edges.now s.args.stays.now s.requires f.result f.ensures = c.start-s.ensures ∙ rw c.ticks.ensures in
+    let at = f.result.piece * s.args.p.channels in
+    let ran = rw (rest_of f.result.piece s.args.durations.now, rest_of at s.args.values.now, placed) at c.score_from.ensures in
+    ran ∙ ap scored (outcome-at-begin s.args.p s.args.durations.now s.args.values.now s.args.begin s.args.edges.now s.args.stays.now s.requires f.result f.ensures)
