@@ -1,6 +1,7 @@
 // The lines of a pattern text (document 01, 'Read a pattern'): the line that may stand next is judged by what the lines above it
 // gave, and then what it holds is put into the pattern. The walk over all lines is the crate pattern_read's.
 #![tactic(auto)]
+
 ghost use Rattle.std.specs.Prelude.{◌≡◌, ◌≤◌, length};
 ghost use Rattle.pattern.specs.Sound.{no_place, no_edge, no_pattern};
 ghost use Rattle.pattern_lines.specs.Turn.{
