@@ -1,6 +1,7 @@
 // What opening and feeding are refused for (document 01, 'Open', 'Feed a piece'): each cause, and the first of them. The
 // look at a table's cells also finds which of its blocks hold a worth.
 #![tactic(auto)]
+
 ghost use Rattle.std.specs.Prelude.{◌≡◌, true, not, cond, ◌&&◌, ◌||◌, ◌+◌, ◌*◌, ◌≤◌, ◌<◌, ltb, length, take, drop};
 ghost use Rattle.std.proofs.Math.Option.{none};
 ghost use Rattle.pattern.specs.Slots.{all};

@@ -3,12 +3,8 @@ use mir.Facts.{to_z-of_z}
 use Rattle.pattern.proofs.BoundLaws.{sized}
 use Rattle.monitor.specs.Feed.{cell_fine}
 use Rattle.feed_checks.proofs.Marks.{mark-bits}
-use Rattle.feed_checks.proofs.cell_fine.Statement.{statement}
-use Rattle.feed_checks.proofs.cell_fine.Tie as tie
+use Rattle.feed_checks.proofs.cell_fine.Goals as goal
 
-returns : tie.Need-returns
+pub returns : goal.returns
 unfolding cell_fine
 returns c = simp (to_z-of_z c.ranges.cell, mark-bits c.args.cell c.ranges.cell, sized 32759999999 c.args.cell)
-
-pub cell-fine-spec : {M : Type 1} → statement M
-cell-fine-spec = tie.close (tie.spec returns)
