@@ -1,5 +1,6 @@
 // Write a pattern (document 01, 'Operations and refusals').
 #![tactic(auto)]
+
 ghost use Rattle.std.specs.Prelude.{◌≡◌, length};
 ghost use Rattle.pattern_write.specs.Written.{written_of, output_of, written_as, written_numbers};
 
@@ -26,6 +27,6 @@ pub fn write(p: Pattern, out: &mut [u8]) -> Written
     if out.len() < n {
         return Written::Refused(Refusal::OutputTooShort);
     }
-    bytes::copy(&text[..n], out);
+    out[..n].copy_from_slice(&text[..n]);
     Written::Length(n)
 }
