@@ -1,17 +1,21 @@
 -- `visit` lets a worth stay, and says what is to be sent on.
-use Prim.Native.Nat.{◌+◌, ◌<◌}
+use Prim.Native.Nat.{ℕ, ◌+◌, ◌<◌}
 use native.Mathlib.Omega.{arith}
 use mathlib.Core.Path.{◌≡◌, refl, sym}
+use mathlib.Core.List.{List}
 use lib.ListN.{length}
+use lib.IntN.{ℤ}
 use mir.Syntax.{w64}
 use mir.Val.{to_z, of_z}
 use mir.Facts.{to_z-of_z}
 use Rattle.weighting.proofs.Weightings.{weighting_of}
-use Rattle.cells.specs.Index.{Placed}
+use Rattle.pattern.specs.Clocks.{Clocks}
+use Rattle.cells.specs.declared.Layout.{Layout}
+use Rattle.cells.specs.Index.{Placed, block_at, code_of, ticked}
+use Rattle.table.specs.Asks.{Staying}
 use Rattle.cells.proofs.Digits.{ticked-within, ticked-long}
 use Rattle.cells.proofs.Blocks.{block_in}
 use Rattle.table.proofs.Steps.{grown-fits, code_lt, still-goes, still-resets, moved-is, stay-is, sent_is}
-use Rattle.table.proofs.visit.Goals.{After-offer-arg-1}
 use Rattle.table.proofs.visit.Goals as goal
 
 -- What is promised stands first, so that a wrong body is refused there (decision 64).
@@ -36,17 +40,13 @@ returns c =
     }
 
 -- the cell lies in the table
-inside : (c : After-offer-arg-1) → c.block_at-to.result + c.code-cell.result < length c.args.table.now
-inside c =
-    let st = c in
-    let h = st.requires in
+inside : {t : List ℤ} {g v : ℤ} (l : Layout) (n p to cell : ℕ) (cs d : Clocks) → Staying t l g v n p → to ≡ block_at l (n + 1) 1 p → d ≡ ticked l.radices cs → cell ≡ code_of l.radices d → to + cell < length t
+inside l n p to cell cs d h at e code =
     let low = h.low in
-    let placed : Placed st.args.l (st.args.n + 1) 1 st.args.p = record { laid = h.laid; low = omega arith; stages = omega arith; place = h.place } in
-    let i = block_in st.args.l (st.args.n + 1) 1 st.args.p placed in
+    let placed : Placed l (n + 1) 1 p = record { laid = h.laid; low = omega arith; stages = omega arith; place = h.place } in
+    let i = block_in l (n + 1) 1 p placed in
     let x = h.inside in
-    let e = c.tick_clocks-ticked.ensures in
-    let k = code_lt st.args.l _ _ h.laid (rw e (ticked-within st.args.l st.args.clocks h.laid)) c.code-cell.ensures in
-    let to = c.block_at-to.ensures in
+    let k = code_lt l d cell h.laid (rw e (ticked-within l cs h.laid)) code in
     omega arith
 
 pub combine-grown-requires : goal.combine-grown-requires
@@ -64,9 +64,9 @@ code-cell-requires c =
 
 pub overflow_add-to : goal.overflow_add-to
 overflow_add-to c =
-    let h = inside c in
+    let h = inside c.args.l c.args.n c.args.p _ _ c.args.clocks _ c.requires c.block_at-to.ensures c.tick_clocks-ticked.ensures c.code-cell.ensures in
     omega (arith, c.well_formed.0.0)
 
 pub offer-requires : goal.offer-requires
 offer-requires c =
-    inside c
+    inside c.args.l c.args.n c.args.p _ _ c.args.clocks _ c.requires c.block_at-to.ensures c.tick_clocks-ticked.ensures c.code-cell.ensures

@@ -1,4 +1,5 @@
 -- `occupied` passes over marks.
+use borrow.Author.Rules.{rules}
 use Prim.Native.Nat.{ℕ, ◌+◌, ◌≤◌}
 use native.Mathlib.Omega.{arith}
 use mathlib.Core.Path.{◌≡◌, refl, ap}
@@ -41,7 +42,7 @@ pub returns-then-v-gt-MARK : goal.returns-then-v-gt-MARK
 returns-then-v-gt-MARK c = let l = c.loop-i in
     let a = c.args in
     let v = get_or a.table.now (a.at + l.i) (pos 0) in
-    let p : to_z w64 (of_z w64 v) ≡ v = to_z-of_z {w = w64} {z = v} (record { sfits = c.v-1.given }) in
+    let p : to_z w64 (of_z w64 v) ≡ v = to_z-of_z {w = w64} {z = v} (record { sfits = search rules }) in
     let m : lt_z mark v ≡ true = rw p at c.if-v-gt-MARK.true in
     record { above = l.invariant.0; below = l.invariant.1.0; skips = λ j x y. l.invariant.1.1 j y x; holds = λ h. m; is = λ h. p; none = λ h. absurd (omega arith) }
 
@@ -49,7 +50,7 @@ pub loop-i-preserved : goal.loop-i-preserved
 loop-i-preserved c = let l = c.loop-i in
     let a = c.args in
     let v = get_or a.table.now (a.at + l.i) (pos 0) in
-    let f : SFits w64 v = record { sfits = c.v-1.given } in
+    let f : SFits w64 v = record { sfits = search rules } in
     let p : to_z w64 (of_z w64 v) ≡ v = to_z-of_z {w = w64} {z = v} f in
     let m : lt_z mark v ≡ false = rw p at c.if-v-gt-MARK.false in
     (omega arith, (omega arith, below_more (λ (j : ℕ). a.k ≤ j → cell_at a.table.now (a.at + j) ≡ mark) l.i l.invariant.1.1 (λ h. none_below v f m)))

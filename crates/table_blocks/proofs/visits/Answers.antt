@@ -1,5 +1,6 @@
 -- `visits` goes through the occupied cells of a block, with the clocks of each. What is written lies after the block, so the
 -- cells still to visit are as they were.
+use borrow.Author.Rules.{rules}
 use Prim.Native.Nat.{ℕ, ◌+◌, ◌*◌, zero-le}
 use native.Mathlib.Omega.{arith}
 use mathlib.Core.Path.{◌≡◌, sym, ap, ◌∙◌}
@@ -36,7 +37,7 @@ visit-sent-requires c = let st = c in
     let l = c.loop-spot in
     let q = to_z-of_z st.ranges.gain in
     let some = l.invariant.1.1.1.1.0 (omega arith) in
-    let v : to_z w64 (of_z w64 l.spot.worth) ≡ l.spot.worth = to_z-of_z {w = w64} {z = l.spot.worth} (record { sfits = c.struct_told-1.given.1.0.1 }) in
+    let v : to_z w64 (of_z w64 l.spot.worth) ≡ l.spot.worth = to_z-of_z {w = w64} {z = l.spot.worth} (record { sfits = search rules }) in
     let h = passing_kept l.invariant.1.0 st.requires.0 in
     record {
       laid = h.laid;
@@ -89,10 +90,10 @@ loop-spot-preserved c = let st = c in
     let here = c.clocks_to-here.ensures in
     let g = to_z w64 (of_z w64 a.gain) in
     let some = l.invariant.1.1.1.1.0 (omega arith) in
-    let x : to_z w64 (of_z w64 l.spot.worth) ≡ l.spot.worth = to_z-of_z {w = w64} {z = l.spot.worth} (record { sfits = c.struct_told-1.given.1.0.1 }) in
+    let x : to_z w64 (of_z w64 l.spot.worth) ≡ l.spot.worth = to_z-of_z {w = w64} {z = l.spot.worth} (record { sfits = search rules }) in
     let e0 = rw x at e.value in
     let e1 = rw x at e.table_after in
-    let q : to_z w64 (of_z w64 s.worth) ≡ s.worth = to_z-of_z {w = w64} {z = s.worth} (record { sfits = c.struct_told-in-loop-spot-1.given.1.0.1 }) in
+    let q : to_z w64 (of_z w64 s.worth) ≡ s.worth = to_z-of_z {w = w64} {z = s.worth} (record { sfits = search rules }) in
     let v = (rw q at m.ensures.table_after) ∙ sent_visit a.l a.w _ a.n a.p _ a.at l.spot.cell l.table a.edges a.count l.spot.worth s _ some.1 some.0 e0 e1 in
     let u = (rw q at m.ensures.value) ∙ told_visit_lem a.l a.w a.edges a.count a.tells.now _ a.n a.p a.at l.table l.spot.cell _ l.spot.worth s l.best some.1 some.0 e0 in
     let v' : m.new.table ≡ visit_of a.l a.w a.edges a.count g a.n a.p a.at l.spot.cell (clocks_at a.l.radices l.spot.cell) l.table = rw here at v in

@@ -1,4 +1,5 @@
 -- `row` goes place by place.
+use borrow.Author.Rules.{rules}
 use Prim.Native.Nat.{ℕ, ◌+◌, ◌*◌, zero-le}
 use native.Mathlib.Omega.{arith}
 use mathlib.Core.Path.{◌≡◌, refl, ap, ◌∙◌}
@@ -41,8 +42,8 @@ place-best-requires c = let st = c in
     let l = c.loop-p in
     let x = get_or a.v.entered l.p (pos 0) in
     let y = get_or a.v.staying l.p (pos 0) in
-    let q : to_z w64 (of_z w64 x) ≡ x = to_z-of_z {w = w64} {z = x} (record { sfits = c.entered-1.given }) in
-    let r : to_z w64 (of_z w64 y) ≡ y = to_z-of_z {w = w64} {z = y} (record { sfits = c.staying-1.given }) in
+    let q : to_z w64 (of_z w64 x) ≡ x = to_z-of_z {w = w64} {z = x} (record { sfits = search rules }) in
+    let r : to_z w64 (of_z w64 y) ≡ y = to_z-of_z {w = w64} {z = y} (record { sfits = search rules }) in
     (known-place l.table a.l a.v a.edges a.count _ _ a.n l.p st.requires.0 (ready-kept l.invariant.1.0 st.requires.2) (omega arith) q r, known-edges st.requires.0 st.requires.1, l.invariant.1.1.1.1.flagged)
 
 pub loop-p-preserved : goal.loop-p-preserved
@@ -51,8 +52,8 @@ loop-p-preserved c = let st = c in
     let l = c.loop-p in
     let x = get_or a.v.entered l.p (pos 0) in
     let y = get_or a.v.staying l.p (pos 0) in
-    let q : to_z w64 (of_z w64 x) ≡ x = to_z-of_z {w = w64} {z = x} (record { sfits = c.entered-1.given }) in
-    let r : to_z w64 (of_z w64 y) ≡ y = to_z-of_z {w = w64} {z = y} (record { sfits = c.staying-1.given }) in
+    let q : to_z w64 (of_z w64 x) ≡ x = to_z-of_z {w = w64} {z = x} (record { sfits = search rules }) in
+    let r : to_z w64 (of_z w64 y) ≡ y = to_z-of_z {w = w64} {z = y} (record { sfits = search rules }) in
     let u = c.place-best.new.table in
     let low = st.requires.2.low in
     let test = c.loop-p-test.true in

@@ -1,4 +1,5 @@
 -- `note` keeps the report, or takes the worth if it is at least as good.
+use borrow.Author.Rules.{rules}
 use mathlib.Core.Path.{◌≡◌, sym, ◌∙◌}
 use mathlib.Core.Bool.{true, false}
 use borrow.Author.Tests.{lt-ltb, le-ltb}
@@ -14,7 +15,7 @@ unfolding noted
 returns-then-at_least c = let st = c in
     let a = st.args in
     let p = to_z-of_z st.ranges.v in
-    let q : to_z w64 (of_z w64 a.r.score) ≡ a.r.score = to_z-of_z {w = w64} {z = a.r.score} (record { sfits = c.struct_told-1.given.0.1 }) in
+    let q : to_z w64 (of_z w64 a.r.score) ≡ a.r.score = to_z-of_z {w = w64} {z = a.r.score} (record { sfits = search rules }) in
     let g : c.at_least.result ≡ (weighting_of a.w).order.at_least a.v a.r.score = rw (p, q) at c.at_least.ensures in
     let h : (weighting_of a.w).order.at_least a.v a.r.score ≡ true = sym g ∙ c.if-at_least.true in
     rw (p, lt-ltb 0 _ c.if-r-gt0.true, h)
@@ -24,7 +25,7 @@ unfolding noted
 returns-else-at_least c = let st = c in
     let a = st.args in
     let p = to_z-of_z st.ranges.v in
-    let q : to_z w64 (of_z w64 a.r.score) ≡ a.r.score = to_z-of_z {w = w64} {z = a.r.score} (record { sfits = c.struct_told-1.given.0.1 }) in
+    let q : to_z w64 (of_z w64 a.r.score) ≡ a.r.score = to_z-of_z {w = w64} {z = a.r.score} (record { sfits = search rules }) in
     let g : c.at_least.result ≡ (weighting_of a.w).order.at_least a.v a.r.score = rw (p, q) at c.at_least.ensures in
     let h : (weighting_of a.w).order.at_least a.v a.r.score ≡ false = sym g ∙ c.if-at_least.false in
     rw (lt-ltb 0 _ c.if-r-gt0.true, h)
