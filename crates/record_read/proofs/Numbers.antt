@@ -1,5 +1,4 @@
 -- The answers of `check` in document 01's numbers: by cases on what is asked.
-use Prim.Native.Nat.{ℕ}
 use mathlib.Core.Path.{◌≡◌, refl}
 use mathlib.Core.List.{List}
 use mathlib.Core.Option.{Option, none, some}

@@ -1,5 +1,6 @@
 // Read a record's text (document 01, 'The watch program'): check it whole, then walk it piece by piece.
 #![tactic(auto)]
+
 ghost use Rattle.std.specs.Prelude.{◌≡◌, ◌+◌, ◌≤◌, min, length};
 ghost use Rattle.record_text.specs.Text.{read_record, pieces_refusal, record_refusal};
 ghost use Rattle.record_read.specs.Line.{limit, no_values, add_value, value_at, value_turn, values_at, line_at, piece_at};
