@@ -1,6 +1,6 @@
 -- A line that is read at a position, with its line feed, is the line that is cut off there; and where none can be read
 -- that may stand there, the form is broken.
-use Prim.Native.Nat.{◌+◌, ◌<◌}
+use Prim.Native.Nat.{◌<◌}
 use native.Mathlib.Omega.{arith}
 use mathlib.Core.Path.{◌≡◌, refl, sym, ap, ◌∙◌}
 use mathlib.Core.List.{[], ◌∷◌, ◌++◌}

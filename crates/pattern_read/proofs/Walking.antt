@@ -1,5 +1,5 @@
 -- The walk from line to line stands, at every turn, where the definition's reading stands.
-use Prim.Native.Nat.{ℕ, suc, ◌+◌, ◌-◌, ◌≤◌, ◌<◌}
+use Prim.Native.Nat.{ℕ, suc, ◌≤◌, ◌<◌}
 use native.Mathlib.Omega.{arith}
 use mathlib.Core.Path.{◌≡◌, refl, sym, ap, ◌∙◌}
 use mathlib.Core.List.{List, [], ◌∷◌, ◌++◌, map}
@@ -15,7 +15,7 @@ use Rattle.pattern.specs.Sound.{header_in_range}
 use Rattle.pattern_text.specs.Bytes.{Bytes, bytes, Reading, got, broken}
 use Rattle.pattern_text.specs.Form.{◌◂◌}
 use Rattle.pattern_text.specs.Line.{test_of, Header, PlaceLine, EdgeLine, Raw, header, place, edge, render_line, header_line, place_line, edge_line}
-use Rattle.pattern_text.specs.Fault.{Doc, judged, header_fault, place_fault, edge_fault, next, stop, unless, is_empty, with_place, with_edge, step_of}
+use Rattle.pattern_text.specs.Fault.{Doc, judged, header_fault, place_fault, edge_fault, stop, unless, is_empty, with_place, with_edge, step_of}
 use Rattle.pattern_text.specs.Text.{Answer, accepted, refused, lines_of, pattern_of, finish, onward, read_lines}
 use Rattle.pattern_text.proofs.Tools.{both, by-test}
 use Rattle.pattern_text.proofs.LineLaws.{header_exact, place_exact, edge_exact}

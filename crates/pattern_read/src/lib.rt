@@ -1,6 +1,7 @@
 // Read a pattern (document 01, 'Read a pattern'): one reader walks the text from line to line. What a line says, and what it
 // leaves in the pattern, is the crate pattern_lines'.
 #![tactic(auto)]
+
 ghost use Rattle.std.specs.Prelude.{◌≡◌, ◌≤◌, length};
 ghost use Rattle.std.proofs.Math.Option.{none};
 ghost use Rattle.pattern_text.specs.Text.{lines_of, read_lines, read_of};
