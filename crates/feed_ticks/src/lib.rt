@@ -1,6 +1,7 @@
 // The ticks of a piece over the cells: what a tick gains in each place, in the first tick and in later ones; each tick told;
 // and a last report told again.
 #![tactic(auto)]
+
 ghost use Rattle.std.specs.Prelude.{◌≡◌, not, ◌+◌, ◌-◌, ◌≤◌, ◌<◌, length, get_or, set, pos};
 ghost use Rattle.record.specs.Joined.{agrees};
 ghost use Rattle.book.specs.View.{counts, gain_in};
