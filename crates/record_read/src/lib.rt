@@ -285,6 +285,7 @@ fn finish(s: Walk) -> Checked
 }
 
 // Check a record's text for a pattern's channels: 1, a broken form anywhere 2, then 8.
+#[tactic(auto, using(crate::proofs::Numbers::long_refused, crate::proofs::Numbers::long_number))]
 pub fn check(text: &[u8], channels: u8) -> Checked
     ensures value { result ≡ checked_of (record_refusal channels text.now) }
     ensures result_value { checked_as result ≡ check_number channels text.now }
