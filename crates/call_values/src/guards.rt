@@ -6,6 +6,7 @@ use super::patterns::pattern_of;
 use best::{Found, best};
 use pattern::Pattern;
 use price::price;
+use std::io;
 
 fn at_most_zero() -> Pattern {
     pattern_of(
@@ -45,15 +46,15 @@ fn best_end(p: Pattern) -> u64 {
     }
 }
 
-fn tried(p: Pattern, short: u64, long: u64, end: u64) {
-    judge(b"  price, a stay of 1 tick", price_answer(p, 1), short);
-    judge(b"  price, a stay of 5 ticks", price_answer(p, 5), long);
-    judge(b"  best, its end", best_end(p), end);
+fn tried(rt: &HostRuntime, p: Pattern, short: u64, long: u64, end: u64) -> io::Result<()> {
+    judge(rt, b"  price, a stay of 1 tick", price_answer(p, 1), short)?;
+    judge(rt, b"  price, a stay of 5 ticks", price_answer(p, 5), long)?;
+    judge(rt, b"  best, its end", best_end(p), end)
 }
 
-pub fn run() {
-    io::write_all(1, b"the guard (<= 0 0)\n");
-    tried(at_most_zero(), 10, 10, 0);
-    io::write_all(1, b"the guard (<= 0 1)\n");
-    tried(at_most_one(), 0, 10, 1);
+pub fn run(rt: &HostRuntime) -> io::Result<()> {
+    println!(rt; "the guard (<= 0 0)")?;
+    tried(rt, at_most_zero(), 10, 10, 0)?;
+    println!(rt; "the guard (<= 0 1)")?;
+    tried(rt, at_most_one(), 0, 10, 1)
 }

@@ -6,6 +6,7 @@ use best::best;
 use lent_state::{feed_through, open_through};
 use monitor::State;
 use pattern::Pattern;
+use std::io;
 
 fn zeros() -> State {
     State {
@@ -45,35 +46,35 @@ fn best_answer(p: Pattern, first: &mut [i64], second: &mut [i64]) -> u64 {
     found_answer(f)
 }
 
-fn all_three(p: Pattern, first: &mut [i64], second: &mut [i64], due: u64) {
-    judge(b"  open", open_answer(p, first, second), due);
-    judge(b"  feed", feed_answer(p, first, second), due);
-    judge(b"  best", best_answer(p, first, second), due);
+fn all_three(rt: &HostRuntime, p: Pattern, first: &mut [i64], second: &mut [i64], due: u64) -> io::Result<()> {
+    judge(rt, b"  open", open_answer(p, first, second), due)?;
+    judge(rt, b"  feed", feed_answer(p, first, second), due)?;
+    judge(rt, b"  best", best_answer(p, first, second), due)
 }
 
-fn short_first() {
+fn short_first(rt: &HostRuntime) -> io::Result<()> {
     let mut first: [i64; 149] = [0; 149];
     let mut second: [i64; 150] = [0; 150];
-    io::write_all(1, b"a first table of 149 cells\n");
-    all_three(document(), &mut first, &mut second, 11);
+    println!(rt; "a first table of 149 cells")?;
+    all_three(rt, document(), &mut first, &mut second, 11)
 }
 
-fn short_second() {
+fn short_second(rt: &HostRuntime) -> io::Result<()> {
     let mut first: [i64; 150] = [0; 150];
     let mut second: [i64; 149] = [0; 149];
-    io::write_all(1, b"a second table of 149 cells\n");
-    all_three(document(), &mut first, &mut second, 11);
+    println!(rt; "a second table of 149 cells")?;
+    all_three(rt, document(), &mut first, &mut second, 11)
 }
 
-fn long_enough() {
+fn long_enough(rt: &HostRuntime) -> io::Result<()> {
     let mut first: [i64; 150] = [0; 150];
     let mut second: [i64; 150] = [0; 150];
-    io::write_all(1, b"tables of 150 cells\n");
-    all_three(document(), &mut first, &mut second, 0);
+    println!(rt; "tables of 150 cells")?;
+    all_three(rt, document(), &mut first, &mut second, 0)
 }
 
-pub fn run() {
-    short_first();
-    short_second();
-    long_enough();
+pub fn run(rt: &HostRuntime) -> io::Result<()> {
+    short_first(rt)?;
+    short_second(rt)?;
+    long_enough(rt)
 }

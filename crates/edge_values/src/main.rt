@@ -3,13 +3,15 @@
 #![tactic(auto)]
 mod texts;
 
-fn main() {
-    io::write_all(1, b"edge values; 0 is for read or done\n");
-    texts::run();
-    call_values::tables::run();
-    call_values::guards::run();
-    text_vectors::run();
-    value_vectors::run();
-    io::write_all(1, b"a pattern without channels\n");
-    unsound_calls::run();
+use std::io;
+
+fn main(rt: HostRuntime) -> io::Result<()> {
+    println!(rt; "edge values; 0 is for read or done")?;
+    texts::run(&rt)?;
+    call_values::tables::run(&rt)?;
+    call_values::guards::run(&rt)?;
+    text_vectors::run(&rt)?;
+    value_vectors::run(&rt)?;
+    println!(rt; "a pattern without channels")?;
+    unsound_calls::run(&rt)
 }

@@ -2,6 +2,7 @@
 use call_values::lines::judge;
 use pattern::number;
 use pattern_read::{Outcome, read};
+use std::io;
 
 fn answer(text: &[u8]) -> u64 {
     let reading = read(text);
@@ -12,42 +13,47 @@ fn answer(text: &[u8]) -> u64 {
     }
 }
 
-fn tried(label: &[u8], text: &[u8], due: u64) {
-    judge(label, answer(text), due);
+fn tried(rt: &HostRuntime, label: &[u8], text: &[u8], due: u64) -> io::Result<()> {
+    judge(rt, label, answer(text), due)
 }
 
-fn bounds() {
+fn bounds(rt: &HostRuntime) -> io::Result<()> {
     tried(
+        rt,
         b"bound 1000000",
         b"(pattern margin 1 1 1 4)\n\
           (place start (< 0 1000000))\n",
         0,
-    );
+    )?;
     tried(
+        rt,
         b"bound 1000001",
         b"(pattern margin 1 1 1 4)\n\
           (place start (< 0 1000001))\n",
         3,
-    );
+    )?;
     tried(
+        rt,
         b"bound -0",
         b"(pattern margin 1 1 1 4)\n\
           (place start (< 0 -0))\n",
         2,
-    );
+    )
 }
 
-fn window() {
+fn window(rt: &HostRuntime) -> io::Result<()> {
     tried(
+        rt,
         b"window 4 3",
         b"(pattern margin 1 1 4 3)\n\
           (place start)\n",
         3,
-    );
+    )
 }
 
-fn places() {
+fn places(rt: &HostRuntime) -> io::Result<()> {
     tried(
+        rt,
         b"16 places",
         b"(pattern margin 1 0 1 4)\n\
           (place plain)\n\
@@ -67,8 +73,9 @@ fn places() {
           (place plain)\n\
           (place plain)\n",
         0,
-    );
+    )?;
     tried(
+        rt,
         b"a 17th place",
         b"(pattern margin 1 0 1 4)\n\
           (place plain)\n\
@@ -89,20 +96,20 @@ fn places() {
           (place plain)\n\
           (place plain)\n",
         4,
-    );
+    )
 }
 
 // A text of line feeds has a broken first line.
-fn lengths() {
+fn lengths(rt: &HostRuntime) -> io::Result<()> {
     let most: [u8; 8192] = [10; 8192];
-    tried(b"8192 bytes reach the lines", &most, 2);
+    tried(rt, b"8192 bytes reach the lines", &most, 2)?;
     let more: [u8; 8193] = [10; 8193];
-    tried(b"8193 bytes", &more, 1);
+    tried(rt, b"8193 bytes", &more, 1)
 }
 
-pub fn run() {
-    bounds();
-    window();
-    places();
-    lengths();
+pub fn run(rt: &HostRuntime) -> io::Result<()> {
+    bounds(rt)?;
+    window(rt)?;
+    places(rt)?;
+    lengths(rt)
 }

@@ -2,13 +2,15 @@
 // a longer buffer, an exact fit and too short ones, and the answers are compared with the table's. tests/host tries the same
 // table from C.
 #![tactic(auto)]
+
 pub mod writes;
 
 ghost use Rattle.std.specs.Prelude.{◌<◌, ◌≤◌, length};
 
-use libc::STDOUT_FILENO;
+use files::read_file;
 use pattern::{Counted, Pattern};
 use pattern_read::Outcome;
+use std::io;
 
 // A number in base ten and where it ends. There may be no digit.
 #[derive(Clone, Copy)]
@@ -158,19 +160,21 @@ fn add(text: &mut [u8], length: usize, table: &[u8], from: usize, to: usize, tim
 }
 
 // Prints a word and the table's line, from `from` to the next line.
-pub fn print(ok: bool, table: &[u8], from: usize, to: usize) {
+pub fn print(rt: &HostRuntime, ok: bool, table: &[u8], from: usize, to: usize) -> io::Result<()> {
     if ok {
-        io::write_all(STDOUT_FILENO, b"ok ");
+        rt.write_all(b"ok ")?;
     } else {
-        io::write_all(STDOUT_FILENO, b"WRONG ");
+        rt.write_all(b"WRONG ")?;
     }
     if from <= to && to <= table.len() {
-        io::write_all(STDOUT_FILENO, &table[from..to]);
+        rt.write_all(&table[from..to])?;
     }
+    Ok(())
 }
 
 // The text is whole: its answers are judged and printed, and the next text begins.
 fn settle(
+    rt: &HostRuntime,
     table: &[u8],
     at: usize,
     mark: usize,
@@ -178,22 +182,22 @@ fn settle(
     number: u64,
     text: &[u8],
     t: Tally,
-) -> Tally {
+) -> io::Result<Tally> {
     let cells = numeral_at(table, mark).value;
     let ok = judged_front(text, t.length, number, cells);
-    print(ok, table, at, next);
+    print(rt, ok, table, at, next)?;
     if ok {
-        Tally {
+        Ok(Tally {
             length: 0,
             right: one_more(t.right),
             wrong: t.wrong,
-        }
+        })
     } else {
-        Tally {
+        Ok(Tally {
             length: 0,
             right: t.right,
             wrong: one_more(t.wrong),
-        }
+        })
     }
 }
 
@@ -208,6 +212,7 @@ fn longer(t: Tally, length: usize) -> Tally {
 
 // What a line of the table says by its mark; `from` is behind the mark.
 fn marked(
+    rt: &HostRuntime,
     table: &[u8],
     at: usize,
     from: usize,
@@ -216,13 +221,13 @@ fn marked(
     n: u64,
     text: &mut [u8],
     t: Tally,
-) -> Tally {
+) -> io::Result<Tally> {
     match mark {
-        b'|' => longer(t, add(text, t.length, table, from, next, n)),
-        b':' => longer(t, add(text, t.length, table, from, before(next), n)),
-        b'.' => longer(t, put(text, t.length, low_byte(n))),
-        b'=' => settle(table, at, from, next, n, text, t),
-        _ => t,
+        b'|' => Ok(longer(t, add(text, t.length, table, from, next, n))),
+        b':' => Ok(longer(t, add(text, t.length, table, from, before(next), n))),
+        b'.' => Ok(longer(t, put(text, t.length, low_byte(n)))),
+        b'=' => settle(rt, table, at, from, next, n, text, t),
+        _ => Ok(t),
     }
 }
 
@@ -237,18 +242,35 @@ fn times(at: usize, n: Numeral) -> u64 {
 }
 
 // One line of the table, from `at` to `next`.
-fn line(table: &[u8], at: usize, next: usize, text: &mut [u8], t: Tally) -> Tally {
+fn line(
+    rt: &HostRuntime,
+    table: &[u8],
+    at: usize,
+    next: usize,
+    text: &mut [u8],
+    t: Tally,
+) -> io::Result<Tally> {
     let n = numeral_at(table, at);
     let end = n.end;
     if end < table.len() {
-        marked(table, at, end + 1, next, table[end], times(at, n), text, t)
+        marked(
+            rt,
+            table,
+            at,
+            end + 1,
+            next,
+            table[end],
+            times(at, n),
+            text,
+            t,
+        )
     } else {
-        t
+        Ok(t)
     }
 }
 
 // All lines of the table.
-fn answer_all(table: &[u8], text: &mut [u8]) -> Tally {
+fn answer_all(rt: &HostRuntime, table: &[u8], text: &mut [u8]) -> io::Result<Tally> {
     let mut t = Tally {
         length: 0,
         right: 0,
@@ -257,31 +279,22 @@ fn answer_all(table: &[u8], text: &mut [u8]) -> Tally {
     let mut at: usize = 0;
     while at < table.len() {
         let next = next_line(table, at);
-        t = line(table, at, next, text, t);
+        t = line(rt, table, at, next, text, t)?;
         at = next;
     }
-    t
+    Ok(t)
 }
 
 // The table is in the folder where the program runs.
-fn texts() {
-    let fd = os::open_read(b"texts.txt");
-    if fd < 0 {
-        os::fail(b"texts.txt");
-        return;
-    }
-    let mut table = io::large_buffer();
-    let n = io::read_full(fd, &mut table);
-    libc::close(fd);
-    let mut text = io::large_buffer();
-    let t = answer_all(&table[..n], &mut text);
-    io::print_decimal(STDOUT_FILENO, t.right);
-    io::write_all(STDOUT_FILENO, b" right, ");
-    io::print_decimal(STDOUT_FILENO, t.wrong);
-    io::write_all(STDOUT_FILENO, b" wrong\n");
+fn texts(rt: &HostRuntime) -> io::Result<()> {
+    let mut table = [0u8; 65536];
+    let n = read_file(rt, "texts.txt", &mut table).length;
+    let mut text = [0u8; 65536];
+    let t = answer_all(rt, &table[..n], &mut text)?;
+    println!(rt; "{} right, {} wrong", t.right, t.wrong)
 }
 
-pub fn run() {
-    io::write_all(STDOUT_FILENO, b"texts\n");
-    texts();
+pub fn run(rt: &HostRuntime) -> io::Result<()> {
+    println!(rt; "texts")?;
+    texts(rt)
 }

@@ -30,7 +30,7 @@ pub fn leaves(bytes: &[u8], p: Pattern, room: usize, due: u64) -> bool {
     let mut whole = [b'#'; 8192];
     put_part(&mut whole, 0, bytes);
     let w = write_front(p, &mut out, room);
-    (answer(w) == due) & check::same(&whole, &out)
+    (answer(w) == due) & (whole == out)
 }
 
 // Whether a write has room enough in 8,192 bytes.

@@ -9,6 +9,7 @@ use lent_state::{feed_through, open_through};
 use monitor::State;
 use pattern::Pattern;
 use price::price;
+use std::io;
 use value_vectors::values::with_header;
 use weighting::MARK;
 
@@ -29,11 +30,11 @@ fn holds(t: &[i64], a: i64, b: i64) -> bool {
     }
 }
 
-fn judge_kept(kept: bool) {
+fn judge_kept(rt: &HostRuntime, kept: bool) -> io::Result<()> {
     if kept {
-        judge(b"    unchanged", 1, 1);
+        judge(rt, b"    unchanged", 1, 1)
     } else {
-        judge(b"    unchanged", 0, 1);
+        judge(rt, b"    unchanged", 0, 1)
     }
 }
 
@@ -46,7 +47,7 @@ fn price_answer(p: Pattern) -> u64 {
     priced_answer(price(p, &durations, &values, 9, &edges, &stays))
 }
 
-fn opened(p: Pattern) {
+fn opened(rt: &HostRuntime, p: Pattern) -> io::Result<()> {
     let mut first: [i64; 2] = [5, MARK];
     let mut second: [i64; 2] = [6, 7];
     let used = State {
@@ -56,13 +57,13 @@ fn opened(p: Pattern) {
     let after = open_through(used, p, &mut first, &mut second);
     let a = after.answer;
     let s = after.state;
-    judge(b"  open", answer(a), 7);
-    judge_kept(same_state(s, used) & holds(&first, 5, MARK) & holds(&second, 6, 7));
+    judge(rt, b"  open", answer(a), 7)?;
+    judge_kept(rt, same_state(s, used) & holds(&first, 5, MARK) & holds(&second, 6, 7))
 }
 
 // A state with a value in an unused channel and no tick left, a piece of 65,536 ticks without values, a cell past the limit, and
 // reports of two places and of one.
-fn fed(p: Pattern) {
+fn fed(rt: &HostRuntime, p: Pattern) -> io::Result<()> {
     let mut first: [i64; 2] = [32760000001, MARK];
     let mut second: [i64; 2] = [6, 7];
     let mut scores: [i64; 2] = [77, 78];
@@ -84,30 +85,31 @@ fn fed(p: Pattern) {
     );
     let a = after.answer;
     let s = after.state;
-    judge(b"  feed", answer(a), 7);
+    judge(rt, b"  feed", answer(a), 7)?;
     judge_kept(
+        rt,
         same_state(s, full)
             & holds(&first, 32760000001, MARK)
             & holds(&second, 6, 7)
             & holds(&scores, 77, 78)
             & (lengths[0] == 79),
-    );
+    )
 }
 
-fn best_told(p: Pattern) {
+fn best_told(rt: &HostRuntime, p: Pattern) -> io::Result<()> {
     let mut first: [i64; 2] = [5, MARK];
     let mut second: [i64; 2] = [6, 7];
     let durations: [u32; 1] = [0];
     let values: [i32; 1] = [10];
     let f = best(p, &durations, &values, &mut first, &mut second);
-    judge(b"  best", found_answer(f), 7);
-    judge_kept(holds(&first, 5, MARK) & holds(&second, 6, 7));
+    judge(rt, b"  best", found_answer(f), 7)?;
+    judge_kept(rt, holds(&first, 5, MARK) & holds(&second, 6, 7))
 }
 
-pub fn run() {
+pub fn run(rt: &HostRuntime) -> io::Result<()> {
     let p = with_header(document(), 0, 1, 1, 4);
-    judge(b"  price", price_answer(p), 7);
-    opened(p);
-    fed(p);
-    best_told(p);
+    judge(rt, b"  price", price_answer(p), 7)?;
+    opened(rt, p)?;
+    fed(rt, p)?;
+    best_told(rt, p)
 }

@@ -3,8 +3,9 @@
 #![tactic(auto)]
 pub mod values;
 
-use libc::STDOUT_FILENO;
+use files::read_file;
 use pattern::{Counted, Guard, Kind, Pattern, Sign, Test};
+use std::io;
 use text_vectors::writes::{fits, leaves};
 use text_vectors::{Numeral, low_byte, next_line, numeral_at, print};
 use values::{with_counts, with_edge, with_guard, with_header, with_place, with_reset, with_test};
@@ -185,34 +186,29 @@ fn value_at(table: &[u8], at: usize) -> Pattern {
 }
 
 // The row from `at` to `next`; a line that begins with no number is none.
-fn row(table: &[u8], at: usize, next: usize) {
+fn row(rt: &HostRuntime, table: &[u8], at: usize, next: usize) -> io::Result<()> {
     let due = numeral_at(table, at);
     if due.end == at {
-        return;
+        return Ok(());
     }
     let ok = judged(value_at(table, behind(due)), due.value);
-    print(ok, table, at, next);
+    print(rt, ok, table, at, next)
 }
 
-fn answer_rows(table: &[u8]) {
+fn answer_rows(rt: &HostRuntime, table: &[u8]) -> io::Result<()> {
     let mut at: usize = 0;
     while at < table.len() {
         let next = next_line(table, at);
-        row(table, at, next);
+        row(rt, table, at, next)?;
         at = next;
     }
+    Ok(())
 }
 
 // The table is in the folder where the program runs.
-pub fn run() {
-    io::write_all(STDOUT_FILENO, b"pattern values\n");
-    let fd = os::open_read(b"values.txt");
-    if fd < 0 {
-        os::fail(b"values.txt");
-        return;
-    }
-    let mut table = io::large_buffer();
-    let n = io::read_full(fd, &mut table);
-    libc::close(fd);
-    answer_rows(&table[..n]);
+pub fn run(rt: &HostRuntime) -> io::Result<()> {
+    println!(rt; "pattern values")?;
+    let mut table = [0u8; 65536];
+    let n = read_file(rt, "values.txt", &mut table).length;
+    answer_rows(rt, &table[..n])
 }
