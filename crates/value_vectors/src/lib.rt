@@ -1,6 +1,7 @@
 // Executes the table of pattern values values.txt, which says its own form and which C cannot reach: values that no text reads
 // as, between sound ones.
 #![tactic(auto)]
+
 pub mod values;
 
 use files::read_file;
