@@ -1,5 +1,6 @@
 // What an opening and a feed do to the tables, the reports and the state where they are not refused.
 #![tactic(auto)]
+
 ghost use Rattle.std.specs.Prelude.{◌≡◌, true, false, ◌≤◌, ◌<◌, List, ◌++◌, length, take, drop, ℤ};
 ghost use Rattle.std.proofs.Math.Option.{none};
 ghost use Rattle.pattern.specs.Sound.{sound_of};

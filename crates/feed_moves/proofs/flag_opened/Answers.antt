@@ -1,0 +1,31 @@
+-- `flag_opened` raises the flags of the start places: all other cells of an opened table are marks.
+use native.Mathlib.Omega.{arith}
+use mathlib.Core.Path.{refl}
+use mathlib.Core.Bool.{false}
+use Rattle.pattern.proofs.SoundLaws.{parts}
+use Rattle.cells.specs.Layout.{layout_of}
+use Rattle.table.proofs.Flags.{flagged_open}
+use Rattle.feed_ticks.specs.Ticks.{kind_flags}
+use Rattle.feed_moves.proofs.Meaning.{layout-made, open_written}
+use Rattle.feed_moves.proofs.flag_opened.Goals as goal
+
+pub raise_starts-requires : goal.raise_starts-requires
+raise_starts-requires c =
+    let st = c in
+    let few = (parts st.args.p st.requires.0).places.few in
+    let wide = st.requires.1 in
+    (omega arith, omega arith)
+
+pub returns : goal.returns
+unfolding layout_of
+returns c =
+    let st = c in
+    let p = st.args.p in
+    let sound = st.requires.0 in
+    let wide = st.requires.1 in
+    let high = (parts p sound).short_high in
+    λ t long.
+    let m = layout-made p sound _ refl in
+    let cells = m.1 in
+    rw (c.raise_starts.ensures, c.kind_flags-starts.ensures, ← open_written p sound t long)
+    (flagged_open _ m.0 p.weighing (kind_flags false p) t _ (omega arith) (omega arith))

@@ -1,0 +1,75 @@
+-- The ticks until the table stands still are moved and told, and then the last report is told again.
+use Prim.Native.Nat.{ℕ, ◌+◌, ◌-◌, ◌≤◌, min}
+use native.Mathlib.Omega.{arith}
+use mathlib.Core.Path.{◌≡◌, ap, ◌∙◌}
+use mathlib.Core.List.{List}
+use lib.ListN.{length, get_or}
+use lib.IntN.{ℤ, pos}
+use Rattle.monitor.specs.Tick.{score_in, length_in}
+use Rattle.feed_ticks.specs.Ticks.{repeated}
+use Rattle.feed_moves.proofs.Meaning.{fine-whole, telling, written-to, scores-told, lengths-told}
+use Rattle.feed_moves.proofs.Still.{table-still, reports-still}
+use Rattle.feed_moves.proofs.tell_piece.Goals as goal
+
+pub tell_all-requires : goal.tell_all-requires
+tell_all-requires c =
+    let s = c in
+    let a = s.args in
+    let sound = s.requires.0 in
+    let fine = s.requires.2 in
+    let long = s.requires.3 in
+    let whole = fine-whole a.p sound a.first.now long s.requires.4 in
+    let m = c.least-moved.result in
+    let is : m ≡ min a.duration _ = c.least-moved.ensures in
+    let scores = s.requires.5 in
+    let lengths = s.requires.6 in (
+      rw (s.requires.1, c.view_in-v.ensures, c.view_in-u.ensures, c.kind_flags-starts.ensures, c.kind_flags-ends.ensures)
+          (telling a.p sound a.values.now fine a.last.now a.first.now long whole _ _ _ (omega arith) (omega arith)),
+      rw s.requires.1 s.requires.7,
+    )
+
+pub repeat_last-requires : goal.repeat_last-requires
+repeat_last-requires c =
+    let s = c in
+    let a = s.args in
+    let m = c.least-moved.result in
+    let is : m ≡ min a.duration _ = c.least-moved.ensures in
+    let k = c.tell_all in
+    let scores = s.requires.5 in
+    let lengths = s.requires.6 in
+    let scores_are_long : length k.new.scores ≡ length a.scores.now = k.auto.scores in
+    let lengths_are_long : length k.new.lengths ≡ length a.lengths.now = k.auto.lengths in
+    let scores-room : a.duration ≤ length k.new.scores = omega arith in
+    let lengths-room : a.duration ≤ length k.new.lengths = omega arith in
+    (omega arith, scores-room, lengths-room, λ h. omega arith)
+
+pub returns : goal.returns
+returns c =
+    let s = c in
+    let a = s.args in
+    let sound = s.requires.0 in
+    let fine = s.requires.2 in
+    let long = s.requires.3 in
+    let whole = fine-whole a.p sound a.first.now long s.requires.4 in
+    let o = c.tell_all.ensures in
+    let r = c.repeat_last.ensures in
+    let m = c.least-moved.result in
+    let d = a.duration in
+    let is : m ≡ min d (a.p.high + 1) = c.least-moved.ensures in
+    let l = s.requires.1 in
+    let v = c.view_in-v.ensures in
+    let u = c.view_in-u.ensures in
+    let starts = c.kind_flags-starts.ensures in
+    let ends = c.kind_flags-ends.ensures in
+    record {
+      first_after = o.first_after ∙ rw (l, v, u, starts, ends) (written-to a.p sound a.values.now fine a.last.now a.first.now long whole m) ∙ table-still a.p sound a.last.now a.values.now a.first.now d m is;
+      scores_after =
+          r.scores_after
+          ∙ ap (λ (x : List ℤ). repeated x m (d - m) (get_or x (m - 1) (pos 0))) (o.scores_after ∙ rw (l, v, u, starts, ends) (scores-told a.p sound a.values.now fine a.last.now a.first.now long whole a.scores.now m))
+          ∙ reports-still a.p sound a.last.now a.values.now a.first.now d m is score_in a.scores.now (pos 0) s.requires.5;
+      lengths_after =
+          r.lengths_after
+          ∙ ap (λ (x : List ℕ). repeated x m (d - m) (get_or x (m - 1) 0)) (o.lengths_after ∙ rw (l, v, u, starts, ends) (lengths-told a.p sound a.values.now fine a.last.now a.first.now long whole a.lengths.now m))
+          ∙ reports-still a.p sound a.last.now a.values.now a.first.now d m is length_in a.lengths.now 0 s.requires.6;
+      flagged = rw (← l) o.flagged;
+    }
