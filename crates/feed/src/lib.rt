@@ -1,5 +1,6 @@
 // Opening a monitor and feeding it a piece. The state goes in by value and comes back beside the answer.
 #![tactic(auto)]
+
 ghost use Rattle.std.specs.Prelude.{◌≡◌, true, ◌<◌, length};
 ghost use Rattle.pattern.specs.Sound.{sound_of};
 ghost use Rattle.monitor.specs.State.{no_ticks};
