@@ -1,6 +1,7 @@
 // The monitor's state lent by the host: `open` and `feed` over a `&mut State`, thin over the crate feed, whose functions take
 // the state by value. Callers in Rattle have the state by value and come in by `open_through` and `feed_through`.
 #![tactic(auto)]
+
 ghost use Rattle.std.specs.Prelude.{◌≡◌};
 ghost use Rattle.monitor.specs.Open.{answer_number, open_answer, open_number, open_state, open_first, open_second};
 ghost use Rattle.monitor.specs.Feed.{feed_answer, feed_number, feed_state, feed_first, feed_second, feed_scores, feed_lengths};
