@@ -1,10 +1,10 @@
 -- A stretch of equal ticks fed to a monitor that stands before it in a record's book: state, tables and reports are the
 -- book's.
-use Prim.Native.Nat.{ℕ, ◌+◌, ◌-◌, ◌≤◌, ◌<◌}
+use Prim.Native.Nat.{ℕ, ◌+◌, ◌≤◌, ◌<◌}
 use native.Mathlib.Omega.{arith}
 use mathlib.Core.Path.{◌≡◌, refl, sym, ap, subst, ◌∙◌}
 use mathlib.Core.List.{List, ◌++◌, append_assoc, Memᴰ}
-use mathlib.Core.Option.{Option, none, some}
+use mathlib.Core.Option.{Option, none}
 use mathlib.Core.Bool.{true}
 use borrow.Author.Tests.{eq-eqb, le-leb, le-ltb}
 use lib.ListN.{length, get_or, replicate, length-append, length-replicate}
@@ -32,7 +32,7 @@ use Rattle.monitor.specs.Demand.{refusal_by}
 use Rattle.monitor.proofs.CellLaws.{of_cells}
 use Rattle.monitor.proofs.Written.{held-written, written_same}
 use Rattle.monitor.proofs.PieceViews.{sample-front, before-front, view_front, longer, before-end}
-use Rattle.monitor.proofs.Between.{Fine, Between, book_table, next, ticks-in, rest-is, cell_no_mark}
+use Rattle.monitor.proofs.Between.{Fine, Between, book_table, ticks-in, rest-is, cell_no_mark}
 use Rattle.monitor.proofs.Demand.{feed_given, score-at, length-at}
 use Rattle.best.specs.Best.{score_at, length_at}
 use Rattle.best.specs.Search.{table_to, state_to}

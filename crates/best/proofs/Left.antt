@@ -4,7 +4,7 @@ use native.Mathlib.Nat.{suc-mul}
 use native.Mathlib.Omega.{arith}
 use mathlib.Core.Path.{◌≡◌, refl, sym, ap, subst, ◌∙◌}
 use mathlib.Core.List.{List, [], ◌∷◌, ◌++◌, map, append_assoc, append-nil}
-use mathlib.Core.Option.{Option, none, some}
+use mathlib.Core.Option.{Option, none}
 use mathlib.Core.Bool.{Bool, true, false, cond}
 use borrow.Author.Tests.{leb-true, ltb-true, ltb-false, eq-eqb, le-leb, le-ltb}
 use lib.Dec.{leb, ltb}
@@ -18,7 +18,6 @@ use Rattle.record.specs.Record.{Book, ticks_of, pieces_of, book_of, total, value
 use Rattle.pattern.proofs.SoundLaws.{both}
 use Rattle.record.proofs.ListLaws.{all_take, all_drop}
 use Rattle.record.proofs.RecordLaws.{parts}
-use Rattle.walks.specs.Tables.{Table}
 use Rattle.monitor.specs.declared.State.{State}
 use Rattle.book.specs.View.{view_of}
 use Rattle.monitor.specs.Cells.{written}

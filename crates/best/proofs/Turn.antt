@@ -8,7 +8,6 @@ use mathlib.Core.Bool.{true}
 use lib.ListN.{length, take, drop, get_or, length-take, length-drop}
 use lib.IntN.{ℤ, pos}
 use Rattle.pattern.specs.declared.Pattern.{Pattern}
-use Rattle.pattern.specs.Slots.{all}
 use Rattle.pattern.specs.Sound.{sound_of}
 use Rattle.pattern.specs.Cells.{cells_needed}
 use Rattle.record.specs.Record.{Book, sample_at, total, value_in_range, record_sound, book_of}
@@ -25,7 +24,7 @@ use Rattle.best.specs.declared.Search.{Search}
 use Rattle.best.specs.Best.{Chosen, chosen_to, score_at, length_at}
 use Rattle.best.specs.Search.{table_to, state_to, chosen_in, chosen_past, chunk_of, SearchedTo, Fit}
 use Rattle.best.proofs.Choices.{past_is}
-use Rattle.best.proofs.Pieces.{fine-tick, front, rest, start, split, front_long, start-low}
+use Rattle.best.proofs.Pieces.{fine-tick, front, rest, split, front_long, start-low}
 use Rattle.best.proofs.Chunk.{whole, given, state-after, first-after, second-after, score-after, length-after}
 
 -- ---- a chunk

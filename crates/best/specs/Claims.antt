@@ -1,16 +1,16 @@
 -- What is proved of the best of a record: the choice is the best over the ends of demand 3 on the record's book, or none; the
 -- answer is that run's end, begin and score; and the tables are left as feeding the whole record leaves them. The proofs are in
 -- proofs/.
-use Rattle.std.specs.Prelude.{ℕ, zero, suc, ◌-◌, ◌≤◌, ◌≡◌, List, [], ◌∷◌, ◌++◌, map, true, not, cond, T, ltb, length, replicate, ℤ, pos}
+use Rattle.std.specs.Prelude.{ℕ, zero, suc, ◌-◌, ◌≤◌, ◌≡◌, List, [], ◌∷◌, ◌++◌, map, true, cond, T, ltb, length, replicate, ℤ, pos}
 use Rattle.std.proofs.Math.Option.{Option, none, some}
 use Rattle.weighting.proofs.Weightings.{weighting_of}
 use Rattle.pattern.specs.declared.Pattern.{Pattern}
 use Rattle.pattern.specs.Sound.{sound_of}
 use Rattle.pattern.specs.Distance.{Sample}
-use Rattle.record.specs.Record.{Piece, Book, pieces_of, record_sound, book_of}
+use Rattle.record.specs.Record.{Piece, Book, pieces_of, book_of}
 use Rattle.book.specs.PricedRun.{PricedRun}
 use Rattle.monitor.specs.declared.State.{State}
-use Rattle.monitor.specs.Open.{table_too_short, open_state, open_first, open_second}
+use Rattle.monitor.specs.Open.{open_state, open_first, open_second}
 use Rattle.monitor.specs.Feed.{Call, feed_state, feed_first, feed_second}
 use Rattle.monitor.specs.Demand.{InWindow}
 use Rattle.best.specs.declared.Found.{Found}

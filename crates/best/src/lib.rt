@@ -1,5 +1,6 @@
 // Best of a record: the record is fed to a monitor in chunks, and the best of the reports is kept.
 #![tactic(auto)]
+
 ghost use Rattle.std.specs.Prelude.{◌≡◌, ◌+◌, ◌≤◌, ◌<◌, length, take, get_or};
 ghost use Rattle.std.proofs.Math.Option.{none};
 ghost use Rattle.record.specs.Record.{total, book_of};
