@@ -37,7 +37,7 @@ fn other(n: u64) -> u64 {
     if n < 1 { 1 } else { n - 1 }
 }
 
-fn is_digit_lem(b: u8) -> bool {
+fn is_digit(b: u8) -> bool {
     (b'0' <= b) & (b <= b'9')
 }
 
@@ -59,7 +59,7 @@ fn with_digit(value: u64, b: u8) -> u64 {
 pub fn numeral_at(table: &[u8], at: usize) -> Numeral {
     let mut value: u64 = 0;
     let mut end = at;
-    while end < table.len() && is_digit_lem(table[end]) {
+    while end < table.len() && is_digit(table[end]) {
         value = with_digit(value, table[end]);
         end += 1;
     }
