@@ -1,5 +1,6 @@
 // Opening and feeding for a host in C, once the pattern's text is read: the state is in a lent slice, and the answer a number.
 #![tactic(auto)]
+
 ghost use Rattle.std.specs.Prelude.{◌≡◌};
 ghost use Rattle.pattern.specs.Refusal.{number_of};
 ghost use Rattle.pattern_text.specs.Text.{accepted};
