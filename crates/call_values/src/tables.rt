@@ -46,7 +46,13 @@ fn best_answer(p: Pattern, first: &mut [i64], second: &mut [i64]) -> u64 {
     found_answer(f)
 }
 
-fn all_three(rt: &HostRuntime, p: Pattern, first: &mut [i64], second: &mut [i64], due: u64) -> io::Result<()> {
+fn all_three(
+    rt: &HostRuntime,
+    p: Pattern,
+    first: &mut [i64],
+    second: &mut [i64],
+    due: u64,
+) -> io::Result<()> {
     judge(rt, b"  open", open_answer(p, first, second), due)?;
     judge(rt, b"  feed", feed_answer(p, first, second), due)?;
     judge(rt, b"  best", best_answer(p, first, second), due)

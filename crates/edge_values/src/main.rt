@@ -1,6 +1,7 @@
 // Document 01's unstarred edge values, what was answered beside what was due; then the table of texts and that of pattern
 // values; and the refusals of a pattern that is unsound.
 #![tactic(auto)]
+
 mod texts;
 
 use std::io;

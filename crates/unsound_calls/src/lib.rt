@@ -1,6 +1,7 @@
 // A pattern without channels, which no text reads as and C cannot lend: 7 comes first. The causes of all later refusals are
 // there, and what is lent is unchanged.
 #![tactic(auto)]
+
 use best::best;
 use call_values::answers::{answer, found_answer, priced_answer};
 use call_values::lines::judge;
@@ -58,7 +59,10 @@ fn opened(rt: &HostRuntime, p: Pattern) -> io::Result<()> {
     let a = after.answer;
     let s = after.state;
     judge(rt, b"  open", answer(a), 7)?;
-    judge_kept(rt, same_state(s, used) & holds(&first, 5, MARK) & holds(&second, 6, 7))
+    judge_kept(
+        rt,
+        same_state(s, used) & holds(&first, 5, MARK) & holds(&second, 6, 7),
+    )
 }
 
 // A state with a value in an unused channel and no tick left, a piece of 65,536 ticks without values, a cell past the limit, and
