@@ -1,5 +1,6 @@
 // The library's answers as a host in C is told them: plain numbers, or structs of numbers.
 #![tactic(auto)]
+
 ghost use Rattle.std.specs.Prelude.{◌≡◌};
 ghost use Rattle.pattern_read.specs.Reading.{outcome_number};
 ghost use Rattle.host_told.specs.Told.{counted_cells, price_told, best_told};
