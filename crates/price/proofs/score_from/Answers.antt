@@ -3,6 +3,7 @@ use native.Mathlib.Omega.{arith}
 use mathlib.Core.Path.{◌≡◌, sym, ap, ◌∙◌}
 use mathlib.Core.List.{List, [], ◌++◌, append-nil}
 use Prim.Native.Nat.{◌^◌, ℕ, ◌≤◌}
+use lib.IntN.{ℤ}
 use lib.ListN.{length, take, drop}
 use lib.Seq.{length-take-le}
 use mir.Syntax.{w64}
@@ -10,6 +11,7 @@ use Rattle.integers.proofs.Casts.{read_back}
 use Rattle.integers.proofs.Ranges.{abs_fits_64}
 use Rattle.record.specs.Run.{steps_of}
 use Rattle.price.specs.Price.{scored}
+use Rattle.price.specs.Whole.{score_at}
 use Rattle.price_runs.specs.Stand.{outcome, score_from}
 use Rattle.price_runs.proofs.RunLaws.{steps_cut}
 use Rattle.price.proofs.WholeLaws.{rest_of}
@@ -43,6 +45,7 @@ returns c =
     let one = steps_of (take 1 es) (take 1 ss) in
     let rest = steps_of (drop 1 es) (drop 1 ss) in
     let all-steps : one ++ (rest ++ []) ≡ steps_of es ss = ap (◌++◌ one) (append-nil rest) ∙ steps_cut 1 es ss s.requires.edges_len in
+    let back = read_back w64 end.result.worth (abs_fits_64 end.result.worth (2 ^ 60) (omega arith) (omega arith)) in
     c.answer.ensures
-    ∙ rw (read_back w64 end.result.worth (abs_fits_64 end.result.worth (2 ^ 60) (omega arith) (omega arith)))
-    (ap scored (others ∙ first.ensures.same (rest ++ []) ∙ ap (outcome s.args.p s.args.durations.now s.args.values.now s.args.s) all-steps))
+    ∙ ap (λ (z : ℤ). scored (score_at s.args.p end.result.going end.result.place z)) back
+    ∙ ap scored (others ∙ first.ensures.same (rest ++ []) ∙ ap (outcome s.args.p s.args.durations.now s.args.values.now s.args.s) all-steps)
