@@ -1,7 +1,6 @@
 -- How long the lines are: a number of 64 bits has at most 20 digits, and a line at most 64 bytes.
-use Prim.Native.Nat.{ℕ, suc, ◌+◌, ◌*◌, ◌-◌, ◌^◌, ◌≤◌, ◌<◌}
+use Prim.Native.Nat.{ℕ, suc, ◌+◌, ◌*◌, ◌^◌, ◌≤◌, ◌<◌}
 use native.Mathlib.Omega.{arith}
-use mathlib.Core.Path.{ap}
 use mathlib.Core.List.{List, ◌++◌}
 use lib.ListN.{length, get_or, length-append}
 use lib.IntN.{ℤ, pos, negsuc}

@@ -1,5 +1,6 @@
 // The lines that `watch` prints, put into a buffer.
 #![tactic(auto)]
+
 ghost use Rattle.std.specs.Prelude.{ℕ, ◌+◌, ◌*◌, ◌≤◌, ◌<◌, length, length as size, get_or};
 ghost use Rattle.best.specs.Search.{chosen_in};
 ghost use Rattle.text_put.specs.Put.{Put};
