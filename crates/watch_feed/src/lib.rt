@@ -1,5 +1,6 @@
 // A chunk of a record fed to the monitor, and the lines of its ends put into a buffer.
 #![tactic(auto)]
+
 ghost use Rattle.std.specs.Prelude.{◌≡◌, ℕ, ◌+◌, ◌*◌, ◌≤◌, ◌<◌, length, get_or};
 ghost use Rattle.monitor.specs.Feed.{feed_state, feed_first, feed_second, feed_scores, feed_lengths};
 ghost use Rattle.best.specs.Search.{chosen_in, chosen_past, chunk_of};
