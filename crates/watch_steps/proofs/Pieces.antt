@@ -1,5 +1,5 @@
 -- A piece of a text that is not refused, as the record's slices have it.
-use Prim.Native.Nat.{ℕ, suc, ◌+◌, ◌-◌, ◌<◌}
+use Prim.Native.Nat.{ℕ, suc, ◌+◌, ◌<◌}
 use native.Mathlib.Omega.{arith}
 use mathlib.Core.Path.{◌≡◌, refl, sym, ap, ◌∙◌}
 use mathlib.Core.List.{List, [], ◌∷◌, ◌++◌, map, map-append}
@@ -8,7 +8,6 @@ use mathlib.Core.Bool.{Bool, true, false, cond}
 use lib.Dec.{ltb}
 use lib.ListN.{length, take, drop, get_or, length-append, length-map}
 use lib.Seq.{take_at, drop_at}
-use Rattle.pattern.specs.declared.Refusal.{Refusal}
 use Rattle.pattern.specs.declared.Refusal.TheVariants.{TextTooLong, BrokenRecord}
 use Rattle.pattern.proofs.SoundLaws.{both}
 use Rattle.pattern_text.specs.Bytes.{Bytes}

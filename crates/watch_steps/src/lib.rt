@@ -1,5 +1,6 @@
 // What `watch` prints, step by step: each step puts some lines into a buffer, and the next goes on from there.
 #![tactic(auto)]
+
 ghost use Rattle.std.specs.Prelude.{◌≡◌, false, ℕ, ◌+◌, ◌-◌, ◌≤◌, ◌<◌, min, length, get_or};
 ghost use Rattle.monitor.specs.Feed.{feed_lengths};
 ghost use Rattle.best.specs.Search.{chosen_in};
