@@ -5,7 +5,7 @@ use mathlib.Core.Path.{◌≡◌, refl, sym, ap, subst, ◌∙◌}
 use mathlib.Core.Logic.{inl}
 use mathlib.Core.List.{List, [], ◌++◌}
 use mathlib.Core.Option.{Option, none, some, none-ne-some}
-use mathlib.Core.Bool.{Bool, true, false, not, cond, ◌||◌}
+use mathlib.Core.Bool.{Bool, true, false, cond, ◌||◌}
 use lib.Dec.{ltb}
 use lib.ListN.{length, take}
 use lib.IntN.{ℤ}
@@ -34,7 +34,6 @@ use Rattle.best.specs.Search.{chosen_by, Fit, SearchedTo, table_to}
 use Rattle.best.proofs.Whole.{fit, second_open}
 use Rattle.watch_text.specs.Shown.{heading, rows_from, best_text, shown_for}
 use Rattle.watch_steps.specs.declared.Watch.{Watch}
-use Rattle.watch_steps.specs.declared.Stage.TheVariants.{Refused}
 use Rattle.watch_steps.specs.Watch.{book_of_text, tables_refusal, unless_cause, refusal_for, answered_with}
 use Rattle.watch_steps.specs.Steps.{rows_due, due_at, due_for, Underway, StandingAt, Standing, stage_by, start_watch, start_first, start_second, opened_watch}
 use Rattle.watch_steps.proofs.Pieces.{book-is, record_sound_lem}

@@ -1,5 +1,6 @@
 // How `watch` starts: both texts are judged and the tables opened, and then what is due is printed step by step (watch_steps).
 #![tactic(auto)]
+
 ghost use Rattle.std.specs.Prelude.{◌≡◌, true, length};
 ghost use Rattle.pattern.specs.Sound.{sound_of};
 ghost use Rattle.pattern_text.specs.Text.{accepted, read_of};
