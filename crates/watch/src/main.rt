@@ -1,8 +1,9 @@
 // Reads pattern.txt and record.txt in the current folder and prints how well the record followed the pattern. Everything
 // that decides is in `watch_start` and `watch_steps`; how files are read and lines written is in `files`.
 #![tactic(auto)]
+
 ghost use Rattle.std.specs.Prelude.{◌≡◌, false, ◌≤◌, ◌<◌, length};
-ghost use Rattle.io.specs.Counts.{IsPrefixLen};
+ghost use Rattle.files.specs.Counts.{IsPrefixLen};
 ghost use Rattle.watch_steps.specs.Steps.{is_done, steps_left, Standing};
 ghost use Rattle.watch_start.specs.Buffers.{pattern_buffer, record_buffer};
 
@@ -18,7 +19,14 @@ struct Shown {
 }
 
 // The next lines are made and written.
-fn show_some(text: &[u8], w: Watch, first: &mut [i64], second: &mut [i64], out: &mut [u8]) -> Shown
+fn show_some(
+    rt: &HostRuntime,
+    text: &[u8],
+    w: Watch,
+    first: &mut [i64],
+    second: &mut [i64],
+    out: &mut [u8],
+) -> Shown
     requires { (Standing text.now w first.old second.old) × (4096 ≤ length out.old)
         × (is_done w.stage ≡ false) }
     ensures standing { Standing text.now result.watch first.new second.new }
@@ -29,7 +37,7 @@ fn show_some(text: &[u8], w: Watch, first: &mut [i64], second: &mut [i64], out: 
 {
     let step = next(text, w, first, second, out);
     let n = step.length;
-    let written = write_out(&out[..n]);
+    let written = write_out(rt, &out[..n]);
     let watch = step.watch;
     Shown {
         watch: watch,
@@ -38,13 +46,20 @@ fn show_some(text: &[u8], w: Watch, first: &mut [i64], second: &mut [i64], out: 
 }
 
 // All lines; after a write that failed, none. Answers whether all were written.
-fn show_all(text: &[u8], w: Watch, first: &mut [i64], second: &mut [i64], out: &mut [u8]) -> bool
+fn show_all(
+    rt: &HostRuntime,
+    text: &[u8],
+    w: Watch,
+    first: &mut [i64],
+    second: &mut [i64],
+    out: &mut [u8],
+) -> bool
     requires { (Standing text.now w first.old second.old) × (4096 ≤ length out.old) }
 {
     let mut now = w;
     let mut written = true;
     while written && !is_done(now) {
-        let shown = show_some(text, now, first, second, out);
+        let shown = show_some(rt, text, now, first, second, out);
         now = shown.watch;
         written = shown.written;
     }
@@ -53,27 +68,27 @@ fn show_all(text: &[u8], w: Watch, first: &mut [i64], second: &mut [i64], out: &
 
 // The lines for what was read: n bytes in the pattern's buffer, m in the record's. The sizes are those that show a text to be too
 // long (`watch_start/specs/Claims` BuffersSuffice). Answers whether all were written.
-fn show(pattern: &[u8], n: usize, text: &[u8], m: usize) -> bool
+fn show(rt: &HostRuntime, pattern: &[u8], n: usize, text: &[u8], m: usize) -> bool
     requires pattern_len { (length pattern.now ≡ pattern_buffer) × (IsPrefixLen n pattern.now) }
     requires text_len { (length text.now ≡ record_buffer) × (IsPrefixLen m text.now) }
 {
     let pieces = &text[..m];
     let mut first: [i64; 2048] = [0; 2048];
     let mut second: [i64; 2048] = [0; 2048];
-    let mut out = io::buffer();
+    let mut out = [0u8; 4096];
     let w = start(&pattern[..n], pieces, &mut first, &mut second);
-    show_all(pieces, w, &mut first, &mut second, &mut out)
+    show_all(rt, pieces, w, &mut first, &mut second, &mut out)
 }
 
-fn main() {
+fn main(rt: HostRuntime) {
     let mut pattern = [0u8; 8193];
     let mut record = [0u8; 16385];
-    let of_pattern = read_file(b"pattern.txt", &mut pattern);
-    let of_record = read_file(b"record.txt", &mut record);
+    let of_pattern = read_file(&rt, "pattern.txt", &mut pattern);
+    let of_record = read_file(&rt, "record.txt", &mut record);
     if !of_pattern.whole || !of_record.whole {
         return;
     }
-    if show(&pattern, of_pattern.length, &record, of_record.length) {
-        close_out();
+    if show(&rt, &pattern, of_pattern.length, &record, of_record.length) {
+        close_out(&rt);
     }
 }
