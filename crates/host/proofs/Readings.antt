@@ -7,7 +7,6 @@ use Rattle.pattern_text.specs.Text.{Answer, accepted, refused}
 use Rattle.pattern_read.specs.declared.PatternRead.{PatternRead}
 use Rattle.pattern_read.specs.declared.Outcome.TheVariants as outcome
 use Rattle.pattern_read.specs.Reading.{reading_of}
-use Rattle.monitor.specs.declared.Answer.TheVariants.{Refused}
 
 pub accepted-is : (a : Answer) (r : PatternRead) → r ≡ reading_of a → r.outcome ≡ outcome.Accepted → a ≡ accepted r.pattern
 accepted-is (accepted p) r e o = ap (λ (x : PatternRead). accepted x.pattern) (sym e)

@@ -3,6 +3,7 @@
 // monitor's state is a lent slice of numbers (crate state_slice), and answers are plain numbers or structs of numbers.
 // include/bench_margin.h declares all of them for C.
 #![tactic(auto)]
+
 ghost use Rattle.std.specs.Prelude.{◌≡◌};
 ghost use Rattle.pattern_text.specs.Text.{read_of};
 ghost use Rattle.feed.specs.After.{call_of};
