@@ -1,4 +1,5 @@
 -- The loop has looked at the first i values.
+use borrow.Author.Rules.{rules}
 use native.Mathlib.Omega.{arith}
 use mathlib.Core.Path.{◌≡◌, sym, ◌∙◌}
 use borrow.Author.Tests.{le-leb}
@@ -28,7 +29,7 @@ loop-i-preserved c =
     let a = c.args in
     let e = eight c.before.before.before.before in
     let v = get_or a.last l.i (pos 0) in
-    (omega arith, rw (l.invariant.1, c.value_fine-ok.ensures, read_back w32 v (record { sfits = c.value_fine-arg-1.given })) (fine_more value_in_range is_null a.channels a.channels a.last (pos 0) l.i (omega arith)))
+    (omega arith, rw (l.invariant.1, c.value_fine-ok.ensures, read_back w32 v (record { sfits = search rules })) (fine_more value_in_range is_null a.channels a.channels a.last (pos 0) l.i (omega arith)))
 
 pub returns : goal.returns
 unfolding fine_to

@@ -1,4 +1,5 @@
 -- The loop has looked at the first i cells of the block, those before its first worth included.
+use borrow.Author.Rules.{rules}
 use native.Mathlib.Omega.{arith}
 use mathlib.Core.Path.{◌≡◌, refl, sym}
 use Prim.Native.Nat.{ℕ, ◌+◌, ◌≤◌, ◌<◌, zero-le}
@@ -35,7 +36,7 @@ loop-i-preserved c =
     let a = c.args in
     let t = a.table.now in
     let v = get_or t (a.at + l.i) (pos 0) in
-    let fits : SFits w64 v = record { sfits = c.v-1.given } in
+    let fits : SFits w64 v = record { sfits = search rules } in
     let h : a.at + l.i < length t = omega arith in (
       omega arith,
       rw (l.invariant.1, c.cell_fine-fine.ensures, read_back w64 v fits) (sym (cell-more cell_fine t a.at l.i h)),

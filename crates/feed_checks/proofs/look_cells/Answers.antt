@@ -1,4 +1,5 @@
 -- The loop has looked at the first i cells of the row, each a block of its own.
+use borrow.Author.Rules.{rules}
 use native.Mathlib.Omega.{arith}
 use native.Mathlib.Nat.{mul-one}
 use mathlib.Core.Path.{◌≡◌, refl, sym, ◌∙◌}
@@ -54,7 +55,7 @@ loop-i-preserved c =
     let t = a.table.now in
     let from = a.n * a.l.row in
     let v = get_or t (from + l.i) (pos 0) in
-    let fits : SFits w64 v = record { sfits = c.v-1.given } in
+    let fits : SFits w64 v = record { sfits = search rules } in
     let h : from + l.i < length t = omega (arith, row_inside a.l a.n s.requires.2, s.requires.1) in
     let one : l.i * 1 ≡ l.i = mul-one l.i in (
       omega arith,

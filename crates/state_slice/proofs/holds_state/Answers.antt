@@ -1,4 +1,5 @@
 -- `holds_state`: its tests are those of the definition.
+use borrow.Author.Rules.{rules}
 use borrow.Author.Tests.{le-leb, lt-leb}
 use lib.ListN.{length, get_or}
 use lib.IntN.{pos}
@@ -15,4 +16,4 @@ pub returns : goal.returns
 unfolding holds_state
 returns c =
     let es = c.args.entries.now in
-    rw (c.values_fit.ensures, c.ticks_fit.ensures, read_back w64 (get_or es 0 (pos 0)) (record { sfits = c.ticks_fit-arg-1.given }), le-leb 9 (length es) c.if-entries-lt9.false)
+    rw (c.values_fit.ensures, c.ticks_fit.ensures, read_back w64 (get_or es 0 (pos 0)) (record { sfits = search rules }), le-leb 9 (length es) c.if-entries-lt9.false)

@@ -1,4 +1,5 @@
 -- The ticks are stored, and the loop has stored the first i values behind them.
+use borrow.Author.Rules.{rules}
 use Prim.Native.Nat.{◌+◌}
 use native.Mathlib.Omega.{arith}
 use mathlib.Core.Path.{◌≡◌, refl, ap, ◌∙◌}
@@ -31,7 +32,7 @@ loop-i-preserved c =
     let vs = s.args.s.last in
     let t = to_z w64 (of_z w64 c.entry_of_ticks.result) in
     let d = set s.args.entries.now 0 t in
-    let fits : SFits w32 (get_or vs l.i (pos 0)) = record { sfits = c.entry_of-arg-1.given } in
+    let fits : SFits w32 (get_or vs l.i (pos 0)) = record { sfits = search rules } in
     let z : to_z w64 (of_z w64 c.entry_of.result) ≡ get_or vs l.i (pos 0) = rw (c.entry_of.ensures, read_back w32 (get_or vs l.i (pos 0)) fits) (read_back w64 (get_or vs l.i (pos 0)) (sfits_widen tt fits)) in
     (omega arith, l.invariant.1, l.invariant.2, rw (l.invariant.3, z) (stored-behind d vs l.i (pos 0) (omega arith) (omega arith)), length-set l.entries (l.i + 1) (to_z w64 (of_z w64 c.entry_of.result)) ∙ l.invariant.4)
 

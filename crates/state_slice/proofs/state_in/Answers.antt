@@ -1,4 +1,5 @@
 -- `state_in`: each entry fits, as the slice holds a state.
+use borrow.Author.Rules.{rules}
 use Prim.Native.Nat.{◌<◌}
 use native.Mathlib.Omega.{arith}
 use mathlib.Core.Path.{◌≡◌, ◌∙◌}
@@ -31,9 +32,9 @@ pub ticks_of-requires : goal.ticks_of-requires
 ticks_of-requires c =
     let s = c in
     let es = s.args.entries.now in
-    rw (read_back w64 (get_or es 0 (pos 0)) (record { sfits = c.ticks_of-arg-1.given })) (holds es s.requires).ticks
+    rw (read_back w64 (get_or es 0 (pos 0)) (record { sfits = search rules })) (holds es s.requires).ticks
 
 pub returns : goal.returns
 returns c =
     let es = c.args.entries.now in
-    rw (c.ticks_of.ensures, read_back w64 (get_or es 0 (pos 0)) (record { sfits = c.ticks_of-arg-1.given }), c.values_of-last.ensures)
+    rw (c.ticks_of.ensures, read_back w64 (get_or es 0 (pos 0)) (record { sfits = search rules }), c.values_of-last.ensures)

@@ -1,4 +1,5 @@
 -- The loop has looked at the first i entries.
+use borrow.Author.Rules.{rules}
 use native.Mathlib.Omega.{arith}
 use mathlib.Core.Path.{refl, sym, ◌∙◌}
 use lib.IntN.{pos}
@@ -18,7 +19,7 @@ pub loop-i-preserved : goal.loop-i-preserved
 loop-i-preserved c =
     let l = c.loop-i in
     let es = c.args.entries.now in
-    (omega arith, rw (l.invariant.1, c.value_fits-ok.ensures, read_back w64 (get_or es l.i (pos 0)) (record { sfits = c.value_fits-arg-1.given }), take_more l.i es (pos 0) (omega arith)) (sym (all_snoc is_value (take l.i es) (get_or es l.i (pos 0)))))
+    (omega arith, rw (l.invariant.1, c.value_fits-ok.ensures, read_back w64 (get_or es l.i (pos 0)) (record { sfits = search rules }), take_more l.i es (pos 0) (omega arith)) (sym (all_snoc is_value (take l.i es) (get_or es l.i (pos 0)))))
 
 pub returns : goal.returns
 returns c =

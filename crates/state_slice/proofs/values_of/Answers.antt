@@ -1,4 +1,5 @@
 -- The loop has stored the first i entries.
+use borrow.Author.Rules.{rules}
 use native.Mathlib.Omega.{arith}
 use mathlib.Core.Path.{◌≡◌, refl, sym, ◌∙◌}
 use lib.ListN.{get_or, replicate}
@@ -25,7 +26,7 @@ value_of-value-requires c =
     let i = c.loop-i.i in
     let k = c.requires in
     let n = k.0 in
-    rw (read_back w64 (get_or es i (pos 0)) (record { sfits = c.value_of-arg-1.given })) (all-at is_value es i (pos 0) k.1 (omega arith))
+    rw (read_back w64 (get_or es i (pos 0)) (record { sfits = search rules })) (all-at is_value es i (pos 0) k.1 (omega arith))
 
 pub loop-i-preserved : goal.loop-i-preserved
 loop-i-preserved c =
@@ -33,7 +34,7 @@ loop-i-preserved c =
     let s = c in
     let es = s.args.entries.now in
     let n = s.requires.0 in
-    let v : get_or es l.i (pos 0) ≡ to_z w64 (of_z w64 (get_or es l.i (pos 0))) = sym (read_back w64 (get_or es l.i (pos 0)) (record { sfits = c.value_of-arg-1.given })) in
+    let v : get_or es l.i (pos 0) ≡ to_z w64 (of_z w64 (get_or es l.i (pos 0))) = sym (read_back w64 (get_or es l.i (pos 0)) (record { sfits = search rules })) in
     let z : to_z w32 (of_z w32 c.value_of-value.result) ≡ get_or es l.i (pos 0) =
     rw (c.value_of-value.ensures, ← v) (read_back w32 (get_or es l.i (pos 0)) (value-fits (get_or es l.i (pos 0)) (all-at is_value es l.i (pos 0) s.requires.1 (omega arith)))) in
     (omega arith, rw (l.invariant.1, z) (stored_more (replicate 8 (pos 0)) es l.i (pos 0) (omega arith) (omega arith)))

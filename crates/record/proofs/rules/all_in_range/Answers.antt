@@ -1,4 +1,5 @@
 -- `all_in_range` looks at each value: the test of those passed.
+use borrow.Author.Rules.{rules}
 use native.Mathlib.Omega.{arith}
 use mathlib.Core.Path.{refl, sym, ◌∙◌}
 use lib.IntN.{pos}
@@ -18,7 +19,7 @@ pub loop-i-preserved : goal.loop-i-preserved
 loop-i-preserved c =
     let l = c.loop-i in
     let a = c.args in
-    (omega arith, rw (l.invariant.1, c.in_range-ok.ensures, read_back w32 (get_or a.values.now l.i (pos 0)) (record { sfits = c.in_range-arg-1.given }), take_more l.i a.values.now (pos 0) (omega arith)) (sym (all_snoc value_in_range (take l.i a.values.now) (get_or a.values.now l.i (pos 0)))))
+    (omega arith, rw (l.invariant.1, c.in_range-ok.ensures, read_back w32 (get_or a.values.now l.i (pos 0)) (record { sfits = search rules }), take_more l.i a.values.now (pos 0) (omega arith)) (sym (all_snoc value_in_range (take l.i a.values.now) (get_or a.values.now l.i (pos 0)))))
 
 pub returns : goal.returns
 returns c =

@@ -11,16 +11,16 @@ unfolding total
 loop-i-init c = (omega arith, (refl, omega arith))
 
 pub overflow_cast-sum : goal.overflow_cast-sum
-overflow_cast-sum c = omega (arith, c.shared_slice_known-1.given c.loop-i.i)
+overflow_cast-sum c = omega (arith, c.type_inv.durations c.loop-i.i)
 
 pub overflow_add-sum : goal.overflow_add-sum
-overflow_add-sum c = omega (arith, c.shared_slice_known-1.given c.loop-i.i)
+overflow_add-sum c = omega (arith, c.type_inv.durations c.loop-i.i)
 
 pub loop-i-preserved : goal.loop-i-preserved
 loop-i-preserved c =
     let l = c.loop-i in
     let a = c.args in
-    (omega arith, (rw l.invariant.1.0 (sym (total-more a.durations.now l.i (omega arith))), omega (arith, c.shared_slice_known-1.given l.i)))
+    (omega arith, (rw l.invariant.1.0 (sym (total-more a.durations.now l.i (omega arith))), omega (arith, c.type_inv.durations l.i)))
 
 pub returns : goal.returns
 returns c =
