@@ -1,6 +1,6 @@
 /* Loaded before a program (LD_PRELOAD). SIGNALS: one comes every millisecond, and ends each call of the system that waits.
  * READ_FAILS_AFTER: each read takes 5 bytes at most, and after so many reads every one fails. WRITE_TAKES_NOTHING: to standard
- * output. CLOSE_FAILS: of standard output. */
+ * output. CLOSE_FAILS: what was written to a file cannot be kept. */
 #define _GNU_SOURCE
 #include <errno.h>
 #include <signal.h>
@@ -47,11 +47,11 @@ ssize_t write(int file, const void *from, size_t size)
     return syscall(SYS_write, file, from, size);
 }
 
-int close(int file)
+int fdatasync(int file)
 {
-    if (file == 1 && getenv("CLOSE_FAILS")) {
+    if (getenv("CLOSE_FAILS")) {
         errno = EIO;
         return -1;
     }
-    return (int)syscall(SYS_close, file);
+    return (int)syscall(SYS_fdatasync, file);
 }

@@ -136,11 +136,20 @@ pub fn read_file(rt: &HostRuntime, path: &str, buffer: &mut [u8]) -> Taken
     }
 }
 
-// How far lines have been written, and whether a write failed.
+// How far lines have been written, whether a write failed, and whether it did since nobody reads any more.
 #[derive(Clone, Copy)]
 struct Writing {
     at: usize,
     failed: bool,
+    closed: bool,
+}
+
+// Whether all bytes were written, a write failed and this was told, or nobody reads the pipe any more.
+#[derive(Clone, Copy)]
+pub enum Written {
+    Whole,
+    Failed,
+    Closed,
 }
 
 // One more write, of the bytes from a place on. One that takes nothing has failed, though the system has no error for it.
@@ -157,33 +166,43 @@ fn write_on(rt: &HostRuntime, bytes: &[u8], at: usize) -> Writing
             Writing {
                 at: at + got,
                 failed: got == 0,
+                closed: false,
             }
         }
         Err(error) => {
+            let closed = error.kind() == ErrorKind::BrokenPipe;
             let failed = !is_passing(&error);
-            if failed {
+            if failed && !closed {
                 fail(rt, "standard output", &error);
             }
             Writing {
                 at: at,
                 failed: failed,
+                closed: closed,
             }
         }
     }
 }
 
-// All the bytes to standard output; or false, and then some of them may be written.
-pub fn write_out(rt: &HostRuntime, bytes: &[u8]) -> bool {
+// All the bytes to standard output; or not, and then some of them may be written.
+pub fn write_out(rt: &HostRuntime, bytes: &[u8]) -> Written {
     let mut writing = Writing {
         at: 0,
         failed: false,
+        closed: false,
     };
     let mut turns = TURNS;
     while turns > 0 && writing.at < bytes.len() && !writing.failed {
         writing = write_on(rt, bytes, writing.at);
         turns -= 1;
     }
-    writing.at == bytes.len()
+    if writing.at == bytes.len() {
+        Written::Whole
+    } else if writing.closed {
+        Written::Closed
+    } else {
+        Written::Failed
+    }
 }
 
 // What stands behind standard output, if it is a file that can be opened once more.

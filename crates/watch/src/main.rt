@@ -7,7 +7,8 @@ ghost use Rattle.files.specs.Counts.{IsPrefixLen};
 ghost use Rattle.watch_steps.specs.Steps.{is_done, steps_left, Standing};
 ghost use Rattle.watch_start.specs.Buffers.{pattern_buffer, record_buffer};
 
-use files::{close_out, read_file, write_out};
+use files::{Written, close_out, read_file, write_out};
+use std::process::ExitCode;
 use watch_start::start;
 use watch_steps::{Watch, is_done, next};
 
@@ -15,7 +16,15 @@ use watch_steps::{Watch, is_done, next};
 #[derive(Clone, Copy)]
 struct Shown {
     watch: Watch,
-    written: bool,
+    written: Written,
+}
+
+fn is_whole(written: Written) -> bool {
+    match written {
+        Written::Whole => true,
+        Written::Failed => false,
+        Written::Closed => false,
+    }
 }
 
 // The next lines are made and written.
@@ -45,7 +54,7 @@ fn show_some(
     }
 }
 
-// All lines; after a write that failed, none. Answers whether all were written.
+// All lines; after a write that failed, none.
 fn show_all(
     rt: &HostRuntime,
     text: &[u8],
@@ -53,12 +62,12 @@ fn show_all(
     first: &mut [i64],
     second: &mut [i64],
     out: &mut [u8],
-) -> bool
+) -> Written
     requires { (Standing text.now w first.old second.old) × (4096 ≤ length out.old) }
 {
     let mut now = w;
-    let mut written = true;
-    while written && !is_done(now) {
+    let mut written = Written::Whole;
+    while is_whole(written) && !is_done(now) {
         let shown = show_some(rt, text, now, first, second, out);
         now = shown.watch;
         written = shown.written;
@@ -67,8 +76,8 @@ fn show_all(
 }
 
 // The lines for what was read: n bytes in the pattern's buffer, m in the record's. The sizes are those that show a text to be too
-// long (`watch_start/specs/Claims` BuffersSuffice). Answers whether all were written.
-fn show(rt: &HostRuntime, pattern: &[u8], n: usize, text: &[u8], m: usize) -> bool
+// long (`watch_start/specs/Claims` BuffersSuffice).
+fn show(rt: &HostRuntime, pattern: &[u8], n: usize, text: &[u8], m: usize) -> Written
     requires pattern_len { (length pattern.now ≡ pattern_buffer) × (IsPrefixLen n pattern.now) }
     requires text_len { (length text.now ≡ record_buffer) × (IsPrefixLen m text.now) }
 {
@@ -80,15 +89,23 @@ fn show(rt: &HostRuntime, pattern: &[u8], n: usize, text: &[u8], m: usize) -> bo
     show_all(rt, pieces, w, &mut first, &mut second, &mut out)
 }
 
-fn main(rt: HostRuntime) {
+// The status of a program that a closed pipe's signal has ended, which a shell tells as 128 and the signal's number.
+const CLOSED_PIPE: u8 = 141;
+
+fn main(rt: HostRuntime) -> ExitCode {
     let mut pattern = [0u8; 8193];
     let mut record = [0u8; 16385];
     let of_pattern = read_file(&rt, "pattern.txt", &mut pattern);
     let of_record = read_file(&rt, "record.txt", &mut record);
     if !of_pattern.whole || !of_record.whole {
-        return;
+        return ExitCode::SUCCESS;
     }
-    if show(&rt, &pattern, of_pattern.length, &record, of_record.length) {
-        close_out(&rt);
+    match show(&rt, &pattern, of_pattern.length, &record, of_record.length) {
+        Written::Whole => {
+            close_out(&rt);
+            ExitCode::SUCCESS
+        }
+        Written::Failed => ExitCode::SUCCESS,
+        Written::Closed => ExitCode::from(CLOSED_PIPE),
     }
 }
