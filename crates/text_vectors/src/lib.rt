@@ -10,6 +10,7 @@ ghost use Rattle.std.specs.Prelude.{◌<◌, ◌≤◌, length};
 use files::read_file;
 use pattern::{Counted, Pattern};
 use pattern_read::Outcome;
+use std::fs::File;
 use std::io;
 
 // A number in base ten and where it ends. There may be no digit.
@@ -285,10 +286,14 @@ fn answer_all(rt: &HostRuntime, table: &[u8], text: &mut [u8]) -> io::Result<Tal
     Ok(t)
 }
 
-// The table is in the folder where the program runs.
+// The table is in the folder where the program runs. Of one that is not there nothing is said but that.
 fn texts(rt: &HostRuntime) -> io::Result<()> {
+    let is_there = File::open(rt, "texts.txt").is_ok();
     let mut table = [0u8; 65536];
     let n = read_file(rt, "texts.txt", &mut table).length;
+    if !is_there {
+        return Ok(());
+    }
     let mut text = [0u8; 65536];
     let t = answer_all(rt, &table[..n], &mut text)?;
     println!(rt; "{} right, {} wrong", t.right, t.wrong)
