@@ -41,8 +41,12 @@ fn fail(rt: &HostRuntime, what: &str, error: &io::Error) {
 // uses up.
 const TURNS: u64 = u64::MAX;
 
-// The file opened for reading, or why it is not.
-fn open(rt: &HostRuntime, path: &str) -> io::Result<File> {
+// The file opened for reading, or why it is not. std's paths are text, so another path names no file.
+fn open(rt: &HostRuntime, path: &[u8]) -> io::Result<File> {
+    let path = match str::from_utf8(path) {
+        Ok(path) => path,
+        Err(_) => return Err(io::Error::from(ErrorKind::InvalidFilename)),
+    };
     for _ in 0..TURNS {
         match File::open(rt, path) {
             Err(error) if is_passing(&error) => {}
@@ -109,13 +113,14 @@ pub struct Taken {
 
 // The file's bytes, as many as the buffer takes. A file that cannot be opened counts as empty, and so does a folder, which the
 // system opens and then cannot read.
-pub fn read_file(rt: &HostRuntime, path: &str, buffer: &mut [u8]) -> Taken
+pub fn read_file(rt: &HostRuntime, path: &[u8], buffer: &mut [u8]) -> Taken
     ensures { IsPrefixLen result.length buffer.new }
 {
+    let name = str::from_utf8(path).unwrap_or("a path that is no text");
     let mut file = match open(rt, path) {
         Ok(file) => file,
         Err(error) => {
-            fail(rt, path, &error);
+            fail(rt, name, &error);
             return Taken {
                 length: 0,
                 whole: true,
@@ -126,7 +131,7 @@ pub fn read_file(rt: &HostRuntime, path: &str, buffer: &mut [u8]) -> Taken
     let whole = match reading.failure {
         None => true,
         Some(error) => {
-            fail(rt, path, &error);
+            fail(rt, name, &error);
             error.kind() == ErrorKind::IsADirectory
         }
     };

@@ -290,7 +290,7 @@ fn answer_all(rt: &HostRuntime, table: &[u8], text: &mut [u8]) -> io::Result<Tal
 fn texts(rt: &HostRuntime) -> io::Result<()> {
     let is_there = File::open(rt, "texts.txt").is_ok();
     let mut table = [0u8; 65536];
-    let n = read_file(rt, "texts.txt", &mut table).length;
+    let n = read_file(rt, b"texts.txt", &mut table).length;
     if !is_there {
         return Ok(());
     }

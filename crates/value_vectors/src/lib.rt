@@ -210,6 +210,6 @@ fn answer_rows(rt: &HostRuntime, table: &[u8]) -> io::Result<()> {
 pub fn run(rt: &HostRuntime) -> io::Result<()> {
     println!(rt; "pattern values")?;
     let mut table = [0u8; 65536];
-    let n = read_file(rt, "values.txt", &mut table).length;
+    let n = read_file(rt, b"values.txt", &mut table).length;
     answer_rows(rt, &table[..n])
 }

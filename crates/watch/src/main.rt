@@ -95,8 +95,8 @@ const CLOSED_PIPE: u8 = 141;
 fn main(rt: HostRuntime) -> ExitCode {
     let mut pattern = [0u8; 8193];
     let mut record = [0u8; 16385];
-    let of_pattern = read_file(&rt, "pattern.txt", &mut pattern);
-    let of_record = read_file(&rt, "record.txt", &mut record);
+    let of_pattern = read_file(&rt, b"pattern.txt", &mut pattern);
+    let of_record = read_file(&rt, b"record.txt", &mut record);
     if !of_pattern.whole || !of_record.whole {
         return ExitCode::SUCCESS;
     }
