@@ -71,7 +71,8 @@ returns-then-s-duration-gt2147483647 c =
     let fine : state_sound a.p a.s ≡ true = sym c.state_sound.ensures ∙ c.if-not-state_sound.false in
     let fits : table_too_short a.p (length a.first.now) a.second ≡ false = rw (← k.1) (sym c.too_short.ensures ∙ c.if-too_short.false) in
     let whole : piece_broken a.p a.duration a.values.now ≡ false = sym c.piece_broken.ensures ∙ c.if-piece_broken.false in
-    refuses (rw (k.0, fine, fits, whole, lt-ltb _ _ c.if-s-duration-gt2147483647.true))
+    let many : too_many_ticks a.s.ticks a.duration ≡ true = lt-ltb _ _ c.if-s-duration-gt2147483647.true in
+    refuses (rw (k.0, fine, fits, whole, many))
 
 pub layout_of-l-requires : goal.layout_of-l-requires
 layout_of-l-requires c = (counted c.args.p _ (sym c.in-Cells.is ∙ c.cells.ensures.value)).0
