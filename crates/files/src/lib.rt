@@ -1,6 +1,6 @@
 // A file in and lines out, over std's files and streams. A call that moves a part of what was asked, that a signal ends or that
-// finds a pipe not ready is gone on with. One that fails is told on standard error. No contract can say which bytes the system
-// moves: what is proved is that the counts lie within the buffers and that each function ends.
+// finds a pipe not ready is gone on with. One that fails is told on standard error, but for a write that nobody reads any more. No
+// contract can say which bytes the system moves: what is proved is that the counts lie within the buffers and that each function ends.
 #![tactic(auto)]
 
 ghost use Rattle.std.specs.Prelude.{◌≤◌, length};

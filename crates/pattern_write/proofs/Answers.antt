@@ -1,13 +1,13 @@
--- A text that fits is in the buffer whole; and the answers about a sound pattern.
+-- A text that fits is in the buffer whole; and the three answers.
 use Prim.Native.Nat.{ℕ, ◌≤◌, ◌<◌, zero-le}
 use mathlib.Core.Path.{◌≡◌, sym, ap, ◌∙◌}
-use mathlib.Core.Bool.{true}
+use mathlib.Core.Bool.{true, false}
 use mathlib.Core.List.{◌++◌}
 use borrow.Author.Tests.{lt-ltb, le-ltb}
 use lib.ListN.{length, take, drop}
 use lib.Seq.{take_all, length-take-le}
 use Rattle.pattern.specs.declared.Pattern.{Pattern}
-use Rattle.pattern.specs.declared.Refusal.TheVariants.{OutputTooShort}
+use Rattle.pattern.specs.declared.Refusal.TheVariants.{OutputTooShort, UnsoundPattern}
 use Rattle.pattern.specs.Sound.{sound_of}
 use Rattle.pattern.proofs.Said.{said}
 use Rattle.pattern_text.specs.Bytes.{Bytes}
@@ -33,7 +33,7 @@ whole {b} {b'} {n} {t} p h =
 pub copied : {b t r : Bytes} {n : ℕ} (out : Bytes) → Whole b n t → r ≡ take n b → r ++ drop n out ≡ t ++ drop (length t) out
 copied {b} {t} {r} {n} out w e = rw (e, w.text, w.size)
 
--- ---- the answers about a sound pattern
+-- ---- the three answers
 
 module _ (p : Pattern) (out : Bytes) where
   -- what `write` promises of an answer and of what the output then holds
@@ -43,6 +43,9 @@ module _ (p : Pattern) (out : Bytes) where
   -- the numbers follow from the answer
   promised : {a : Written} {o : Bytes} → a ≡ written_of p (length out) → o ≡ output_of p out → Promised a o
   promised e o = let k = said written_as (written-numbers p (length out)) e in (k.0, (k.1, o))
+
+  pub unsound : sound_of p ≡ false → Promised (Refused UnsoundPattern) out
+  unsound e = promised (rw e) (rw e)
 
   pub too_short : sound_of p ≡ true → length out < length (render_of p) → Promised (Refused OutputTooShort) out
   too_short e h = let k = lt-ltb (length out) (length (render_of p)) h in promised (rw (e, k)) (rw (e, k))

@@ -1,6 +1,6 @@
 -- A sound pattern's text fits the buffer, so the buffer holds it whole.
 use Prim.Native.Nat.{ℕ}
-use mathlib.Core.Bool.{true}
+use mathlib.Core.Bool.{true, false}
 use mathlib.Core.Path.{◌≡◌, sym, ◌∙◌}
 use lib.ListN.{length, length-replicate}
 use lib.Seq.{length-take-le}
@@ -10,12 +10,18 @@ use Rattle.pattern_text.specs.Bytes.{Bytes}
 use Rattle.pattern_text.specs.Text.{render_of}
 use Rattle.pattern_text.proofs.Theorems.{texts_short}
 use Rattle.text_put.specs.Put.{Put}
-use Rattle.pattern_write.proofs.Answers.{Whole, whole, copied, too_short, written}
+use Rattle.pattern_write.proofs.Answers.{Whole, whole, copied, unsound, too_short, written}
 use native.Mathlib.Omega.{arith}
 use Rattle.pattern_write.proofs.write.Goals as goal
 
 in_text : {b b' : Bytes} {n : ℕ} (p : Pattern) → length b ≡ 8192 → sound_of p ≡ true → Put b b' 0 n (render_of p) → Whole b' n (render_of p)
 in_text p l e q = whole q (rw l (texts_short p e))
+
+pub returns-then-not-sound : goal.returns-then-not-sound
+returns-then-not-sound c =
+    let e : sound_of c.args.p ≡ false = sym c.sound.ensures ∙ c.if-not-sound.true in
+    let k = unsound c.args.p c.args.out.now e in
+    record { value = k.0; result_value = k.1.0; out_after = k.1.1 }
 
 pub returns-then-out-n : goal.returns-then-out-n
 returns-then-out-n c =
