@@ -45,7 +45,7 @@
  *   - A slice that is not const overlaps no other slice of the call, whatever the call then does, and no other thread reads or
  *     writes it during the call. Nobody writes the const ones during the call; they may overlap each other.
  *   - Nothing is kept between calls, nothing is allocated, and nothing is written but what is said below and the
- *     function's own part of the stack (some 37 kilobytes, measured by tests/hostile), so any number of threads may call at
+ *     function's own part of the stack (some 43 kilobytes, measured by tests/hostile), so any number of threads may call at
  *     a time.
  *   - Every content of the slices is answered. A call is done, or it is refused: then nothing lent is altered, and the number
  *     of the refusal says the first cause in the order that is given for the function. pattern_check, monitor_open and

@@ -1,10 +1,11 @@
 /* Loaded before a program (LD_PRELOAD). SIGNALS: one comes every millisecond, and ends each call of the system that waits.
  * READ_FAILS_AFTER: each read takes 5 bytes at most, and after so many reads every one fails. WRITE_TAKES_NOTHING: to standard
- * output. CLOSE_FAILS: what was written to a file cannot be kept. */
+ * output. CLOSE_FAILS: what was written to a file cannot be kept; CLOSE_FAILS=unasked: its file system cannot be asked. */
 #define _GNU_SOURCE
 #include <errno.h>
 #include <signal.h>
 #include <stdlib.h>
+#include <string.h>
 #include <sys/syscall.h>
 #include <sys/time.h>
 #include <unistd.h>
@@ -49,8 +50,9 @@ ssize_t write(int file, const void *from, size_t size)
 
 int fdatasync(int file)
 {
-    if (getenv("CLOSE_FAILS")) {
-        errno = EIO;
+    const char *fails = getenv("CLOSE_FAILS");
+    if (fails) {
+        errno = strcmp(fails, "unasked") == 0 ? EINVAL : EIO;
         return -1;
     }
     return (int)syscall(SYS_fdatasync, file);

@@ -1,10 +1,11 @@
 // A file in and lines out, over std's files and streams. A call that moves a part of what was asked, that a signal ends or that
-// finds a pipe not ready is gone on with. One that fails is told on standard error, but for a write that nobody reads any more. No
-// contract can say which bytes the system moves: what is proved is that the counts lie within the buffers and that each function ends.
+// finds a pipe not ready is gone on with. One that fails is told on standard error, but for a write that nobody reads any more.
+// No contract can say which bytes the system moves: what is proved is that the counts lie within the buffers and that each
+// function ends.
 #![tactic(auto)]
 
 ghost use Rattle.std.specs.Prelude.{◌≤◌, length};
-ghost use Rattle.files.specs.Counts.{IsPrefixLen};
+ghost use Rattle.io.specs.Counts.{IsPrefixLen};
 
 use std::fs::{File, OpenOptions};
 use std::io::{ErrorKind, Read, Write};
@@ -225,10 +226,17 @@ fn sync_out(rt: &HostRuntime) -> io::Result<()> {
     }
 }
 
-// The end of the output. Some file systems tell only here that a write failed. A signal is no such failure.
+// Whether an error says that the file system keeps nothing back, and so was not asked.
+fn is_unasked(error: &io::Error) -> bool {
+    let kind = error.kind();
+    kind == ErrorKind::InvalidInput || kind == ErrorKind::Unsupported
+}
+
+// The end of the output. Some file systems tell only here that a write failed. A signal is no such failure, and neither is a
+// file system that cannot be asked.
 pub fn close_out(rt: &HostRuntime) {
     if let Err(error) = sync_out(rt) {
-        if !is_passing(&error) {
+        if !is_passing(&error) && !is_unasked(&error) {
             fail(rt, "standard output", &error);
         }
     }

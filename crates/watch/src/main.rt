@@ -3,7 +3,7 @@
 #![tactic(auto)]
 
 ghost use Rattle.std.specs.Prelude.{◌≡◌, false, ◌≤◌, ◌<◌, length};
-ghost use Rattle.files.specs.Counts.{IsPrefixLen};
+ghost use Rattle.io.specs.Counts.{IsPrefixLen};
 ghost use Rattle.watch_steps.specs.Steps.{is_done, steps_left, Standing};
 ghost use Rattle.watch_start.specs.Buffers.{pattern_buffer, record_buffer};
 
