@@ -31,7 +31,8 @@ DECLARED = re.compile(
 )
 TOKEN = re.compile(r"[^\s(){}\[\];,.\"`:|&!*<>=+/]+")
 RECORD = re.compile(r"^\s*(?:pub\s+)?record\s")
-STD = os.environ.get("RATTLE_STD", "/opt/rattle/rattle/std")
+# the library of the kit whose command `rt` is on the path
+STD = os.path.join(os.path.dirname(subprocess.check_output(["rt", "doc"], text=True).strip()), "rattle", "std")
 
 
 def files(root, ending, below="crates"):
