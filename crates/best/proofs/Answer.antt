@@ -13,10 +13,11 @@ use Rattle.pattern.specs.Sound.{sound_of}
 use Rattle.record.specs.Record.{Book, record_sound, pieces_of, ticks_of, book_of}
 use Rattle.record.specs.Worth.{price_of}
 use Rattle.record.proofs.PriceLaws.{priced_parts}
-use Rattle.monitor.specs.Open.{first_cause, table_too_short}
+use Rattle.std.specs.Prelude.{Ok}
+use Rattle.monitor.specs.Open.{answer_of, first_cause, table_too_short}
 use Rattle.monitor.specs.Demand.{InWindow}
 use Rattle.monitor.proofs.Demand.{open_parts}
-use Rattle.best.specs.Best.{Chosen, chosen_to, chosen_of, best_refusal, answered, found_as, chosen_as}
+use Rattle.best.specs.Best.{Chosen, chosen_to, chosen_of, best_refusal, run_of, found_as, chosen_as}
 use Rattle.best.specs.Claims.{Told, RunFrom, AnswerSays, BestAnswers, NothingInNothing, BestNumbers}
 use Rattle.best.proofs.Ends.{best_of_record}
 use Rattle.best.proofs.Whole.{causes}
@@ -51,7 +52,7 @@ module _ (p : Pattern) (b : Book) where
       let e = r.run.ends in
       omega arith
 
-  pub said : (o : Option Chosen) → Told p b (length b) o → AnswerSays p b (answered none o)
+  pub said : (o : Option Chosen) → Told p b (length b) o → AnswerSays p b (Ok (run_of o))
   said none k = λ begin end w r. k end (end - begin) w (ends-inside begin end w r) (from-begin begin end w r)
   said (some f) k =
       record {
@@ -78,7 +79,7 @@ unfolding best_refusal
 best_numbers_lem p ds vs t u = by (not (sound_of p)) (not (record_sound p.channels ds vs)) (table_too_short p (length t) (length u)) (chosen_of p (book_of p.channels ds vs))
   where
     by : (x y z : Bool) (o : Option Chosen)
-        → found_as (answered (first_cause ((x, UnsoundPattern) ∷ (y, BrokenRecord) ∷ (z, TableTooShort) ∷ [])) o)
+        → found_as (answer_of (run_of o) (first_cause ((x, UnsoundPattern) ∷ (y, BrokenRecord) ∷ (z, TableTooShort) ∷ [])))
         ≡ cond x (7, none) (cond y (8, none) (cond z (11, none) (0, chosen_as o)))
     by true y z o = refl
     by false true z o = refl

@@ -12,13 +12,7 @@ use Rattle.weighting.proofs.Weightings.{weighting_of}
 use Rattle.pattern.specs.declared.Pattern.{Pattern}
 use Rattle.record.specs.Record.{Book}
 use Rattle.best.specs.Best.{Chosen, chosen_with, chosen_to, score_at, length_at}
-use Rattle.best.specs.Search.{chosen_by, chosen_past}
-
--- a choice whose length is not 0 is a run
-pub is-run : (end len : ℕ) (score : ℤ) → ¬ len ≡ 0 → chosen_by end len score ≡ some (record { end = end; len = len; score = score })
-unfolding chosen_by
-is-run end zero score n = absurd (n refl)
-is-run end (suc len) score n = refl
+use Rattle.best.specs.Search.{chosen_past}
 
 module _ (p : Pattern) (end : ℕ) (score : ℤ) where
   pub no_run : (o : Option Chosen) (len : ℕ) → len ≡ 0 → o ≡ chosen_with p o end score len
@@ -51,27 +45,24 @@ module _ (p : Pattern) (end : ℕ) (score : ℤ) where
         by true e = stays f (suc len) e
         by false e = stays (record { end = end; len = suc len; score = score }) (suc len) no_worse
 
-  module _ (e : ℕ) (s : ℤ) where
-    -- a run, and none before it
-    pub first_run : (f len : ℕ) → ¬ len ≡ 0 → f ≡ 0 → chosen_by end len score ≡ chosen_with p (chosen_by e f s) end score len
-    unfolding chosen_by chosen_with
-    first_run f zero a b = absurd (a refl)
-    first_run f (suc len) a b = rw b
+  -- a run, and none before it
+  pub first_run : (len : ℕ) → ¬ len ≡ 0 → some (record { end = end; len = len; score = score }) ≡ chosen_with p none end score len
+  unfolding chosen_with
+  first_run zero a = absurd (a refl)
+  first_run (suc len) a = refl
 
-    -- a run that is no better than the one before it, or better
-    pub kept_run : (f len : ℕ) → ¬ len ≡ 0 → ¬ f ≡ 0 → (weighting_of p.weighing).order.at_least s score ≡ true
-        → chosen_by e f s ≡ chosen_with p (chosen_by e f s) end score len
-    unfolding chosen_by chosen_with
-    kept_run f zero a b c = absurd (a refl)
-    kept_run zero (suc len) a b c = absurd (b refl)
-    kept_run (suc f) (suc len) a b c = rw c
+  -- a run that is no better than the one before it, or better
+  pub kept_run : (f : Chosen) (len : ℕ) → ¬ len ≡ 0 → (weighting_of p.weighing).order.at_least f.score score ≡ true
+      → some f ≡ chosen_with p (some f) end score len
+  unfolding chosen_with
+  kept_run f zero a c = absurd (a refl)
+  kept_run f (suc len) a c = rw c
 
-    pub better-run : (f len : ℕ) → ¬ len ≡ 0 → ¬ f ≡ 0 → (weighting_of p.weighing).order.at_least s score ≡ false
-        → chosen_by end len score ≡ chosen_with p (chosen_by e f s) end score len
-    unfolding chosen_by chosen_with
-    better-run f zero a b c = absurd (a refl)
-    better-run zero (suc len) a b c = absurd (b refl)
-    better-run (suc f) (suc len) a b c = rw c
+  pub better-run : (f : Chosen) (len : ℕ) → ¬ len ≡ 0 → (weighting_of p.weighing).order.at_least f.score score ≡ false
+      → some (record { end = end; len = len; score = score }) ≡ chosen_with p (some f) end score len
+  unfolding chosen_with
+  better-run f zero a c = absurd (a refl)
+  better-run f (suc len) a c = rw c
 
 module _ (p : Pattern) (b : Book) (n : ℕ) (ss : List ℤ) (ls : List ℕ) where
   -- the reports of the ends after n, looked at one by one

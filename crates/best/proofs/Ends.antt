@@ -18,7 +18,9 @@ use Rattle.record.specs.Record.{Book}
 use Rattle.monitor.specs.Demand.{InWindow, BestRun, NoRun}
 use Rattle.monitor.proofs.Demand.{report-right}
 use Rattle.best.specs.Best.{Chosen, chosen_with, chosen_to, chosen_of, score_at, length_at}
-use Rattle.best.specs.Search.{chosen_by}
+use Rattle.std.specs.Prelude.{Option as Maybe, Some, None, IfSome}
+use Rattle.best.specs.declared.Choice.{Choice}
+use Rattle.best.specs.Search.{chosen_in}
 use Rattle.best.specs.Claims.{BestTo, NoneTo, Told, BestOfRecord}
 
 module _ (p : Pattern) (sound : sound_of p ≡ true) (b : Book) where
@@ -120,12 +122,11 @@ pub best_of_record : BestOfRecord
 best_of_record p sound b = told p sound b (length b) (omega arith)
 
 -- a run that is chosen begins in the book
-pub begins-inside : (p : Pattern) → sound_of p ≡ true → (b : Book) (end len : ℕ) (score : ℤ) → chosen_by end len score ≡ chosen_of p b → len ≤ end
-unfolding chosen_by
-begins-inside p sound b end zero score e = omega arith
-begins-inside p sound b end (suc len) score e =
+pub begins-inside : (p : Pattern) → sound_of p ≡ true → (b : Book) (o : Maybe Choice) → chosen_in o ≡ chosen_of p b → IfSome o (λ c. c.length ≤ c.end)
+begins-inside p sound b None e = tt
+begins-inside p sound b (Some c) e =
     let k = subst (Told p b (length b)) (sym e) (best_of_record p sound b) in
-    (lasts p sound b end (suc len) score k.attained).1
+    (lasts p sound b c.end c.length c.score k.attained).1
 
 -- a run that is reported begins in the book
 pub report-inside : (p : Pattern) → sound_of p ≡ true → (b : Book) (end : ℕ) → end ≤ length b → length_at p b end ≤ end

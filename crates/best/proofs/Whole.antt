@@ -15,10 +15,10 @@ use Rattle.pattern.specs.Cells.{cells_needed}
 use Rattle.record.specs.Record.{Book, total, record_sound, book_of}
 use Rattle.book.specs.View.{before}
 use Rattle.flags.specs.Flags.{Flagged}
-use Rattle.monitor.specs.declared.State.{State}
 use Rattle.monitor.specs.Cells.{layout, written}
 use Rattle.monitor.specs.Tick.{open_table}
-use Rattle.monitor.specs.Open.{table_too_short, marks, open_refusal, open_state, open_first, open_second}
+use Rattle.monitor.specs.State.{no_ticks}
+use Rattle.monitor.specs.Open.{table_too_short, marks, open_refusal, open_first, open_second}
 use Rattle.monitor.proofs.Written.{written_again, marks_again}
 use Rattle.monitor.proofs.Accepted.{no_cause}
 use Rattle.monitor.proofs.Demand.{open_parts, fresh}
@@ -40,21 +40,26 @@ module _ (p : Pattern) (ds : List ℕ) (vs : List ℤ) where
       let two = no_cause (not (record_sound p.channels ds vs)) BrokenRecord third one.1 in
       (not-false (record_sound p.channels ds vs) two.0, rw one.0 two.1)
 
+  -- a sound pattern and record are refused as an opening is
+  pub as-opening : (first second : ℕ) → sound_of p ≡ true → record_sound p.channels ds vs ≡ true → best_refusal p ds vs first second ≡ open_refusal p first second
+  unfolding best_refusal open_refusal
+  as-opening first second sound fits = rw (sound, fits)
+
   module _ (t u : List ℤ) (none_given : best_refusal p ds vs (length t) (length u) ≡ none) where
     opens : open_refusal p (length t) (length u) ≡ none
     opens = (causes (length t) (length u) none_given).1
 
     -- after the opening nothing was fed
-    pub fit : (q : State) (s : Search) → s.state ≡ open_state p t u q → chosen_in s.choice ≡ none → Fit p ds vs 0 s (open_first p t u)
+    pub fit : (s : Search) → s.state ≡ no_ticks → chosen_in s.choice ≡ none → Fit p ds vs 0 s (open_first p t u)
     unfolding total chosen_to before
-    fit q s state choice =
+    fit s state choice =
         let k = open_parts p (length t) (length u) opens in
         let h = fresh p t u k in
         rw opens
         (record {
           sound = k.0;
           fits = (causes (length t) (length u) none_given).0;
-          searched = (state ∙ rw opens (ap (λ (l : List ℤ). record { ticks = 0; last = l }) h.last), choice);
+          searched = (state ∙ ap (λ (l : List ℤ). record { ticks = 0; last = l }) h.last, choice);
           first_long = h.first_long;
           first = sym (written_again p (open_table p) (open_table p) t);
         })

@@ -1,5 +1,5 @@
 -- Best of a record (document 01, 'Best of a record').
-use Rattle.std.specs.Prelude.{ℕ, zero, suc, ◌-◌, List, [], ◌∷◌, not, cond, length, ℤ}
+use Rattle.std.specs.Prelude.{ℕ, zero, suc, ◌-◌, List, [], ◌∷◌, not, cond, length, ℤ, Option as Maybe, Some, None, Result, Ok, Err}
 use Rattle.std.proofs.Math.Option.{Option, none, some}
 use Rattle.weighting.proofs.Weightings.{weighting_of}
 use Rattle.pattern.specs.declared.Pattern.{Pattern}
@@ -11,9 +11,8 @@ use Rattle.record.specs.Record.{Book, record_sound, book_of}
 use Rattle.book.specs.View.{view_of}
 use Rattle.monitor.specs.Cells.{written}
 use Rattle.monitor.specs.Tick.{open_table, ticks_later, report_of, score_in, length_in}
-use Rattle.monitor.specs.Open.{first_cause, unless_refused, table_too_short, marks}
-use Rattle.best.specs.declared.Found.{Found}
-use Rattle.best.specs.declared.Found.TheVariants.{Run, Nothing, Refused}
+use Rattle.monitor.specs.Open.{answer_of, first_cause, unless_refused, table_too_short, marks}
+use Rattle.best.specs.declared.Run.{Run}
 
 -- A run's end, length and score.
 pub record Chosen : Type 0 where
@@ -58,20 +57,19 @@ best_refusal p ds vs first second =
     ∷ [])
 
 -- "the best end, begin and score .., or none"; the begin is the end less the length
-abbrev pub answered : Option Refusal → Option Chosen → Found
-answered (some r) o = Refused r
-answered none none = Nothing
-answered none (some f) = Run f.end (f.end - f.len) f.score
+abbrev pub run_of : Option Chosen → Maybe Run
+run_of none = None
+run_of (some f) = Some (record { end = f.end; begin = f.end - f.len; score = f.score })
 
-abbrev pub best_of : Pattern → (durations : List ℕ) → (values : List ℤ) → (first second : List ℤ) → Found
-best_of p ds vs t u = answered (best_refusal p ds vs (length t) (length u)) (chosen_of p (book_of p.channels ds vs))
+abbrev pub best_of : Pattern → (durations : List ℕ) → (values : List ℤ) → (first second : List ℤ) → Result (Maybe Run) Refusal
+best_of p ds vs t u = answer_of (run_of (chosen_of p (book_of p.channels ds vs))) (best_refusal p ds vs (length t) (length u))
 
 -- What an answer says: the refusal's number (0 if there is none), and the end, begin and score; none of them beside a refusal,
 -- and none without a run.
-abbrev pub found_as : Found → ℕ × Option (ℕ × ℕ × ℤ)
-found_as (Run end begin score) = (0, some (end, begin, score))
-found_as Nothing = (0, none)
-found_as (Refused r) = (number_of r, none)
+abbrev pub found_as : Result (Maybe Run) Refusal → ℕ × Option (ℕ × ℕ × ℤ)
+found_as (Ok (Some r)) = (0, some (r.end, r.begin, r.score))
+found_as (Ok None) = (0, none)
+found_as (Err r) = (number_of r, none)
 
 abbrev pub chosen_as : Option Chosen → Option (ℕ × ℕ × ℤ)
 chosen_as none = none

@@ -1,7 +1,7 @@
 -- What is proved of the best of a record: the choice is the best over the ends of demand 3 on the record's book, or none; the
 -- answer is that run's end, begin and score; and the tables are left as feeding the whole record leaves them. The proofs are in
 -- proofs/.
-use Rattle.std.specs.Prelude.{ℕ, zero, suc, ◌-◌, ◌≤◌, ◌≡◌, List, [], ◌∷◌, ◌++◌, map, true, cond, T, ltb, length, replicate, ℤ, pos}
+use Rattle.std.specs.Prelude.{ℕ, zero, suc, ◌-◌, ◌≤◌, ◌≡◌, List, [], ◌∷◌, ◌++◌, map, true, cond, T, ltb, length, replicate, ℤ, pos, Option as Maybe, Some, None, Result, Ok, Err}
 use Rattle.std.proofs.Math.Option.{Option, none, some}
 use Rattle.weighting.proofs.Weightings.{weighting_of}
 use Rattle.pattern.specs.declared.Pattern.{Pattern}
@@ -13,8 +13,8 @@ use Rattle.monitor.specs.declared.State.{State}
 use Rattle.monitor.specs.Open.{open_state, open_first, open_second}
 use Rattle.monitor.specs.Feed.{Call, feed_state, feed_first, feed_second}
 use Rattle.monitor.specs.Demand.{InWindow}
-use Rattle.best.specs.declared.Found.{Found}
-use Rattle.best.specs.declared.Found.TheVariants.{Run, Nothing, Refused}
+use Rattle.pattern.specs.declared.Refusal.{Refusal}
+use Rattle.best.specs.declared.Run.{Run}
 use Rattle.best.specs.Best.{Chosen, chosen_of, best_refusal, best_of, found_as, best_numbers, best_first, best_second}
 
 -- Among the ends up to n: some run has this end, length and score; no run is better; none as good ends earlier, and none as
@@ -57,10 +57,10 @@ pub record BestRunIs (p : Pattern) (b : Book) (end begin : ℕ) (score : ℤ) : 
 
 -- "or none": no run in the window, whatever its begin and end. As a run that is answered is one, none is answered exactly
 -- then.
-abbrev pub AnswerSays : Pattern → Book → Found → Type 0
-AnswerSays p b (Run end begin score) = BestRunIs p b end begin score
-AnswerSays p b Nothing = (begin end : ℕ) (w : ℤ) → ¬ RunFrom p b begin end w
-AnswerSays p b (Refused r) = ⊥
+abbrev pub AnswerSays : Pattern → Book → Result (Maybe Run) Refusal → Type 0
+AnswerSays p b (Ok (Some r)) = BestRunIs p b r.end r.begin r.score
+AnswerSays p b (Ok None) = (begin end : ℕ) (w : ℤ) → ¬ RunFrom p b begin end w
+AnswerSays p b (Err r) = ⊥
 
 -- What `best` answers, unless it is refused.
 abbrev pub BestAnswers : Type 0
@@ -70,7 +70,7 @@ BestAnswers =
 
 -- "A record without pieces gives none."
 abbrev pub NothingInNothing : Type 0
-NothingInNothing = (p : Pattern) (vs t u : List ℤ) → best_refusal p [] vs (length t) (length u) ≡ none → best_of p [] vs t u ≡ Nothing
+NothingInNothing = (p : Pattern) (vs t u : List ℤ) → best_refusal p [] vs (length t) (length u) ≡ none → best_of p [] vs t u ≡ Ok None
 
 -- What `best` answers is what is due, in document 01's numbers.
 abbrev pub BestNumbers : Type 0

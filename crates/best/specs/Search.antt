@@ -1,6 +1,6 @@
 -- Going through a record, chunk by chunk: what the code keeps after the first n ticks of the record's book, a layer below
 -- the definitions of Best.
-use Rattle.std.specs.Prelude.{ℕ, zero, suc, ◌+◌, ◌-◌, ◌≤◌, ◌≡◌, List, ◌++◌, true, length, take, get_or, replicate, ℤ, pos}
+use Rattle.std.specs.Prelude.{Option as Maybe, Some, None, ℕ, zero, suc, ◌+◌, ◌-◌, ◌≤◌, ◌≡◌, List, ◌++◌, true, length, take, get_or, replicate, ℤ, pos}
 use Rattle.std.proofs.Math.Option.{Option, none, some}
 use Rattle.pattern.specs.declared.Pattern.{Pattern}
 use Rattle.pattern.specs.Sound.{sound_of}
@@ -16,7 +16,12 @@ use Rattle.monitor.specs.Tick.{open_table, ticks_later}
 use Rattle.monitor.specs.Feed.{Call}
 use Rattle.best.specs.declared.Choice.{Choice}
 use Rattle.best.specs.declared.Search.{Search}
+use Rattle.record.specs.declared.Record.{Record}
 use Rattle.best.specs.Best.{Chosen, chosen_with, chosen_to}
+
+-- The book of a lent record.
+abbrev pub book_in : Pattern → Record → Book
+book_in p r = book_of p.channels r.durations.now r.values.now
 
 -- The table after the first n ticks of a book.
 abbrev pub table_to : Pattern → Book → ℕ → Table ℤ Clocks
@@ -26,13 +31,10 @@ table_to p b n = ticks_later p (view_of p b) (open_table p) n
 abbrev pub state_to : Pattern → Book → ℕ → State
 state_to p b n = record { ticks = n; last = before p b n ++ replicate (8 - p.channels) (pos 0) }
 
--- What a choice stands for: length 0 for none.
-unfoldable pub chosen_by : (end len : ℕ) → (score : ℤ) → Option Chosen
-chosen_by end zero score = none
-chosen_by end (suc len) score = some (record { end = end; len = suc len; score = score })
-
-abbrev pub chosen_in : Choice → Option Chosen
-chosen_in f = chosen_by f.end f.length f.score
+-- The run that a choice stands for.
+abbrev pub chosen_in : Maybe Choice → Option Chosen
+chosen_in None = none
+chosen_in (Some f) = some (record { end = f.end; len = f.length; score = f.score })
 
 -- The choice once the first i reports after n ticks were looked at.
 unfoldable pub chosen_past : Pattern → Option Chosen → (n : ℕ) → (scores : List ℤ) → (lengths : List ℕ) → (i : ℕ) → Option Chosen

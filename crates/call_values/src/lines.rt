@@ -3,11 +3,7 @@ use std::io;
 
 // An answer beside the one that was due.
 pub fn judge(rt: &HostRuntime, label: &[u8], answered: u64, due: u64) -> io::Result<()> {
+    let wrong = if answered == due { "" } else { ", WRONG" };
     rt.write_all(label)?;
-    print!(rt; ": {answered}, due {due}")?;
-    if answered == due {
-        println!(rt; "")
-    } else {
-        println!(rt; ", WRONG")
-    }
+    println!(rt; ": {answered}, due {due}{wrong}")
 }

@@ -1,10 +1,10 @@
 // Patterns by their texts.
-use pattern::Pattern;
+use pattern::{NO_PATTERN, Pattern};
 use pattern_read::read;
 
+// Zeros where the text is refused.
 pub fn pattern_of(text: &[u8]) -> Pattern {
-    let reading = read(text);
-    reading.pattern
+    read(text).unwrap_or(NO_PATTERN)
 }
 
 // Document 01's example.

@@ -10,7 +10,8 @@ use pattern::Pattern;
 use pattern::clocks::radix;
 
 // What the index needs: the greatest length, the places, a radix for each of four clocks; then the cells of a block
-// (one length, stage and place) and of a row (one length).
+// (one length, stage and place) and of a row (one length). That it is `Laid` is no ghost field: definitions speak of the
+// layout of any pattern, sound or not.
 #[derive(Clone, Copy)]
 pub struct Layout {
     pub high: usize,
@@ -20,7 +21,8 @@ pub struct Layout {
     pub row: usize,
 }
 
-// A pattern's layout for runs of up to `longest` ticks.
+// A pattern's layout for runs of up to `longest` ticks. It widens by `as`: with `usize::from` two goals stay open.
+// Sound, and no type of sound patterns: document 01 has an answer for every value of a pattern (7).
 pub fn layout_of(p: Pattern, longest: u16) -> Layout
     requires { sound_of p ≡ true }
     ensures { result ≡ layout_of p longest }
@@ -34,14 +36,14 @@ pub fn layout_of(p: Pattern, longest: u16) -> Layout
     let radices = [a as usize, b as usize, c as usize, d as usize];
     Layout {
         high: longest as usize,
-        places: places,
-        radices: radices,
-        block: block,
+        places,
+        radices,
+        block,
         row: 2 * places * block,
     }
 }
 
-// A clock one tick later, held at its ceiling.
+// A clock one tick later, held at its ceiling. Not `(clock + 1).min(..)`: that sum wraps at the largest number.
 pub fn tick_clock(radix: usize, clock: usize) -> usize
     requires { 0 < radix }
     ensures { result ≡ min (clock + 1) (radix - 1) }
@@ -51,15 +53,17 @@ pub fn tick_clock(radix: usize, clock: usize) -> usize
 }
 
 // All clocks one tick later.
+// A literal of four clocks, as `code` and `clocks_at` name them one by one.
 pub fn tick_clocks(l: Layout, clocks: [usize; 4]) -> [usize; 4]
     requires { Laid l }
     ensures { result ≡ ticked l.radices clocks }
 {
-    let a = tick_clock(l.radices[0], clocks[0]);
-    let b = tick_clock(l.radices[1], clocks[1]);
-    let c = tick_clock(l.radices[2], clocks[2]);
-    let d = tick_clock(l.radices[3], clocks[3]);
-    [a, b, c, d]
+    [
+        tick_clock(l.radices[0], clocks[0]),
+        tick_clock(l.radices[1], clocks[1]),
+        tick_clock(l.radices[2], clocks[2]),
+        tick_clock(l.radices[3], clocks[3]),
+    ]
 }
 
 // The clocks of the next cell of a block, from those of cell k: no division.
@@ -67,12 +71,9 @@ fn next_clocks(l: Layout, clocks: [usize; 4], k: usize) -> [usize; 4]
     requires { (Laid l) × (k < l.block) × (clocks ≡ clocks_at l.radices k) }
     ensures { result ≡ clocks_at l.radices (k + 1) }
 {
-    let a = clocks[0];
-    let b = clocks[1];
-    let c = clocks[2];
-    let d = clocks[3] + 1;
-    if d < l.radices[3] {
-        [a, b, c, d]
+    let [a, b, c, d] = clocks;
+    if d + 1 < l.radices[3] {
+        [a, b, c, d + 1]
     } else if c + 1 < l.radices[2] {
         [a, b, c + 1, 0]
     } else if b + 1 < l.radices[1] {
@@ -87,9 +88,7 @@ fn clocks_at(l: Layout, k: usize) -> [usize; 4]
     requires { (Laid l) × (k < l.block) }
     ensures { result ≡ clocks_at l.radices k }
 {
-    let s = l.radices[1];
-    let t = l.radices[2];
-    let u = l.radices[3];
+    let [_, s, t, u] = l.radices;
     let c = k / u;
     let b = c / t;
     let a = b / s;
@@ -115,17 +114,13 @@ pub fn code(l: Layout, clocks: [usize; 4]) -> usize
     requires { (Laid l) × (Within l.radices clocks) }
     ensures { result ≡ code_of l.radices clocks }
 {
-    let a = clocks[0];
-    let b = clocks[1];
-    let c = clocks[2];
-    let d = clocks[3];
-    let s = l.radices[1];
-    let t = l.radices[2];
-    let u = l.radices[3];
+    let [a, b, c, d] = clocks;
+    let [_, s, t, u] = l.radices;
     ((a * s + b) * t + c) * u + d
 }
 
 // Where the block of a length, a stage and a place starts.
+// The stage is a number, 0 just entered and 1 staying: it is a factor of the index.
 pub fn block_at(l: Layout, n: usize, stage: usize, p: usize) -> usize
     requires { Placed l n stage p }
     ensures { result ≡ block_at l n stage p }

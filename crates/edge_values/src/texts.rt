@@ -1,20 +1,11 @@
 // Edge values of texts: 0, or the refusal.
+use call_values::answers::answer;
 use call_values::lines::judge;
-use pattern::number;
-use pattern_read::{Outcome, read};
+use pattern_read::read;
 use std::io;
 
-fn answer(text: &[u8]) -> u64 {
-    let reading = read(text);
-    let outcome = reading.outcome;
-    match outcome {
-        Outcome::Accepted => 0,
-        Outcome::Refused(why) => number(why) as u64,
-    }
-}
-
 fn tried(rt: &HostRuntime, label: &[u8], text: &[u8], due: u64) -> io::Result<()> {
-    judge(rt, label, answer(text), due)
+    judge(rt, label, answer(read(text)), due)
 }
 
 fn bounds(rt: &HostRuntime) -> io::Result<()> {
@@ -101,10 +92,8 @@ fn places(rt: &HostRuntime) -> io::Result<()> {
 
 // A text of line feeds has a broken first line.
 fn lengths(rt: &HostRuntime) -> io::Result<()> {
-    let most: [u8; 8192] = [10; 8192];
-    tried(rt, b"8192 bytes reach the lines", &most, 2)?;
-    let more: [u8; 8193] = [10; 8193];
-    tried(rt, b"8193 bytes", &more, 1)
+    tried(rt, b"8192 bytes reach the lines", &[b'\n'; 8192], 2)?;
+    tried(rt, b"8193 bytes", &[b'\n'; 8193], 1)
 }
 
 pub fn run(rt: &HostRuntime) -> io::Result<()> {

@@ -1,2 +1,2 @@
--- Definitions: the state and the answer side by side.
+-- Definitions: what an opening and a feed hand back.
 pub mod After

@@ -1,9 +1,8 @@
-// Opening a monitor and feeding it a piece. The state goes in by value and comes back beside the answer.
+// Opening a monitor and feeding it a piece. The state goes in by value, and the state after the call comes back, or the refusal.
 #![tactic(auto)]
 
 ghost use Rattle.std.specs.Prelude.{◌≡◌, true, ◌<◌, length};
 ghost use Rattle.pattern.specs.Sound.{sound_of};
-ghost use Rattle.monitor.specs.State.{no_ticks};
 ghost use Rattle.monitor.specs.Open.{answer_number, open_number, open_first, open_second};
 ghost use Rattle.monitor.specs.Feed.{feed_number, feed_first, feed_second, feed_scores, feed_lengths};
 ghost use Rattle.feed.specs.After.{opened_of, call_of, fed_of};
@@ -11,43 +10,24 @@ ghost use Rattle.feed.specs.After.{opened_of, call_of, fed_of};
 use cells::layout_of;
 use feed_checks::{feed_refusal, open_refusal};
 use feed_moves::{feed_piece, mark_all, open_both};
-use monitor::{After, Answer, State};
-use pattern::Pattern;
-
-// No ticks, zeros.
-fn no_ticks() -> State
-    ensures { result ≡ no_ticks }
-{
-    State {
-        ticks: 0,
-        last: [0, 0, 0, 0, 0, 0, 0, 0],
-    }
-}
+use monitor::State;
+use pattern::{Pattern, Refusal};
 
 // Opening: 7, 11; else no ticks, the empty runs, and marks.
-pub fn open(s: State, p: Pattern, first: &mut [i64], second: &mut [i64]) -> After
-    ensures value { result ≡ opened_of p first.old second.old s }
-    ensures answer_value { answer_number result.answer ≡ open_number p first.old second.old }
+// Both tables come one by one, as document 01 and a host in C lend them.
+pub fn open(p: Pattern, first: &mut [i64], second: &mut [i64]) -> Result<State, Refusal>
+    ensures value { result ≡ opened_of p first.old second.old }
+    ensures answer_value { answer_number result ≡ open_number p first.old second.old }
     ensures first_after { first.new ≡ open_first p first.old second.old }
     ensures second_after { second.new ≡ open_second p first.old second.old }
 {
-    match open_refusal(p, first.len(), second.len()) {
-        Answer::Done => {
-            open_both(p, first, second);
-            let none = no_ticks();
-            After {
-                state: none,
-                answer: Answer::Done,
-            }
-        }
-        Answer::Refused(r) => After {
-            state: s,
-            answer: Answer::Refused(r),
-        },
-    }
+    open_refusal(p, first.len(), second.len())?;
+    open_both(p, first, second);
+    Ok(State::no_ticks())
 }
 
 // Feeding a piece, with flags lent for it, at least one number for each row. What they hold before does not matter.
+// The slices and the two tables come one by one, as document 01 and a host in C lend them.
 fn feed_with(
     s: State,
     p: Pattern,
@@ -58,7 +38,7 @@ fn feed_with(
     scores: &mut [i64],
     lengths: &mut [u32],
     flags: &mut [u32],
-) -> After
+) -> Result<State, Refusal>
     requires { sound_of p ≡ true → p.high < length flags.old }
     ensures value { result ≡ fed_of p s first.old second.old
         (call_of duration values.now scores.old lengths.old) }
@@ -71,7 +51,7 @@ fn feed_with(
     ensures lengths_after { lengths.new ≡ feed_lengths p s first.old second.old
         (call_of duration values.now scores.old lengths.old) }
 {
-    match feed_refusal(
+    feed_refusal(
         p,
         s,
         first,
@@ -81,25 +61,16 @@ fn feed_with(
         scores.len(),
         lengths.len(),
         flags,
-    ) {
-        Answer::Done => {
-            let l = layout_of(p, p.high);
-            let state = feed_piece(s, p, l, first, flags, duration, values, scores, lengths);
-            mark_all(p, l, second);
-            After {
-                state: state,
-                answer: Answer::Done,
-            }
-        }
-        Answer::Refused(r) => After {
-            state: s,
-            answer: Answer::Refused(r),
-        },
-    }
+    )?;
+    let l = layout_of(p, p.high);
+    let later = feed_piece(s, p, l, first, flags, duration, values, scores, lengths);
+    mark_all(p, l, second);
+    Ok(later)
 }
 
 // Feeding a piece: 7, 12, 11, 8, 13, 14, 6; else a score and a length for each tick. A table of few rows gets few flags:
 // clearing those of the highest window is a measurable part of a short call on it.
+// The slices come one by one, as there.
 pub fn feed(
     s: State,
     p: Pattern,
@@ -109,10 +80,10 @@ pub fn feed(
     values: &[i32],
     scores: &mut [i64],
     lengths: &mut [u32],
-) -> After
+) -> Result<State, Refusal>
     ensures value { result ≡ fed_of p s first.old second.old
         (call_of duration values.now scores.old lengths.old) }
-    ensures answer_value { answer_number result.answer ≡ feed_number p s first.old second.old
+    ensures answer_value { answer_number result ≡ feed_number p s first.old second.old
         (call_of duration values.now scores.old lengths.old) }
     ensures first_after { first.new ≡ feed_first p s first.old second.old
         (call_of duration values.now scores.old lengths.old) }
@@ -124,13 +95,28 @@ pub fn feed(
         (call_of duration values.now scores.old lengths.old) }
 {
     if p.high < 128 {
-        let mut few: [u32; 128] = [0; 128];
-        return feed_with(
-            s, p, first, second, duration, values, scores, lengths, &mut few,
-        );
+        feed_with(
+            s,
+            p,
+            first,
+            second,
+            duration,
+            values,
+            scores,
+            lengths,
+            &mut [0; 128],
+        )
+    } else {
+        feed_with(
+            s,
+            p,
+            first,
+            second,
+            duration,
+            values,
+            scores,
+            lengths,
+            &mut [0; 4096],
+        )
     }
-    let mut flags: [u32; 4096] = [0; 4096];
-    feed_with(
-        s, p, first, second, duration, values, scores, lengths, &mut flags,
-    )
 }

@@ -4,11 +4,9 @@ use native.Mathlib.Omega.{arith}
 use mathlib.Core.Path.{◌≡◌, refl, sym, ap, subst, fun_ext, ◌∙◌}
 use mathlib.Core.Logic.{inl, inr, ⊎_elim}
 use mathlib.Core.List.{List, ◌++◌, map, Memᴰ}
-use mathlib.Core.Option.{none, some}
-use mathlib.Core.Bool.{Bool, true, false, cond}
-use borrow.Author.Tests.{lt-ltb}
+use Rattle.std.specs.Prelude.{Option, Some, None}
+use mathlib.Core.Bool.{Bool, true, false}
 use native.Mathlib.Nat.{mul-le-mul_right}
-use lib.Dec.{ltb}
 use lib.ListN.{length, take, drop, get_or, length-map, get_or-map}
 use lib.IntN.{ℤ, pos, nat_abs}
 use Rattle.weighting.specs.declared.Weighing.{Weighing}
@@ -18,7 +16,6 @@ use Rattle.weighting.specs.Cell.{mark, held_in}
 use Rattle.weighting.proofs.Cell.{held_in-other}
 use Rattle.pattern.specs.declared.Pattern.{Pattern}
 use Rattle.pattern.specs.declared.Place.{Place}
-use Rattle.pattern.specs.declared.Edge.{Edge}
 use Rattle.pattern.specs.Slots.{all}
 use Rattle.pattern.specs.Sound.{no_place, sound_of}
 use Rattle.pattern.specs.InUse.{place_at}
@@ -36,11 +33,9 @@ use Rattle.book.specs.View.{gain_in, tick_view}
 use Rattle.cells.specs.declared.Layout.{Layout}
 use Rattle.cells.specs.Layout.{layout_of, cells_in, Laid}
 use Rattle.cells.proofs.Blocks.{row_next}
-use Rattle.table.specs.declared.View.{View}
 use Rattle.table.specs.declared.report.Report.{Report}
 use Rattle.table.specs.Moves.{cell_at, open_of, gain_at}
-use Rattle.table.specs.Reports.{noted, told_of}
-use Rattle.table.proofs.Told.{told-keeps}
+use Rattle.table.proofs.Steps.{known_gains}
 use Rattle.table.specs.Asks.{Known, Whole, Ticking, Filed}
 use Rattle.table_laws.specs.Meaning.{result_of, About, Seen, Viewed}
 use Rattle.table_laws.specs.Patterns.{Flags}
@@ -56,51 +51,23 @@ use Rattle.monitor.proofs.Numbers.{made_in, made-only}
 use Rattle.monitor.proofs.CellLaws.{laid, cells_are, at-index, celled_at, is_a_cell}
 use Rattle.monitor.proofs.Written.{fine-at}
 use Rattle.monitor.proofs.Sizes.{GainSized, gain-in_sized}
-use Rattle.feed_ticks.specs.Ticks.{kind_flag, kind_flags, gains_of, view_in, Ground, ground_of, view_at, table_to, scores_to, lengths_to, report_in, Telling}
+use Rattle.feed_ticks.specs.Ticks.{kind_flag, kind_flags, gains_of, view_in, Common, common_of, view_at, table_to, score_of, length_of, scores_to, lengths_to, report_in, Telling}
 use Rattle.feed_moves.proofs.Lists.{same_default, is-written}
 
--- ---- a report of length 0 is zeros
+-- ---- a report as the slices hold it
 
-abbrev Blank : Report → Type 0
-Blank r = ltb 0 r.length ≡ false → (r.score ≡ pos 0) × (r.length ≡ 0)
+said_score : (r : Option Report) → score_of r ≡ score_in (result_of r)
+said_score (Some r) = refl
+said_score None = refl
 
-no : ◌≡◌ {A = Bool} true false → ⊥
-no e = let z : ◌≡◌ {A = ℕ} 0 1 = cc in omega arith
-
-noted_blank : (w : Weighing) (r : Report) (v : ℤ) (n : ℕ) → 0 < n → Blank r → Blank (noted w r v n)
-unfolding noted
-noted_blank w r v n some-n h = by (ltb 0 r.length) ((weighting_of w).order.at_least v r.score)
-  where
-    new : Report
-    new = record { score = v; length = n }
-
-    by : (y z : Bool) → Blank (cond y (cond z new r) new)
-    by true true q = absurd (no (sym (lt-ltb 0 n some-n) ∙ q))
-    by true false q = h q
-    by false z q = absurd (no (sym (lt-ltb 0 n some-n) ∙ q))
-
-unfound : (l : Layout) (w : Weighing) (v : View) (es : List Edge) (count : ℕ) (ends : List Bool) (low : ℕ) (t : List ℤ) → Blank (told_of l w v es count ends low t)
-unfound l w v es count ends low t =
-    told-keeps Blank l w (λ r x n some-n h k. noted_blank w r x n some-n k) v es count ends low t (λ e. (refl, refl))
-
-said_score : (r : Report) → Blank r → r.score ≡ score_in (result_of r)
-said_score r h = by (ltb 0 r.length) refl
-  where
-    by : (x : Bool) → ltb 0 r.length ≡ x → r.score ≡ score_in (cond x (some (r.score, r.length)) none)
-    by true e = refl
-    by false e = (h e).0
-
-said_length : (r : Report) → Blank r → r.length ≡ length_in (result_of r)
-said_length r h = by (ltb 0 r.length) refl
-  where
-    by : (x : Bool) → ltb 0 r.length ≡ x → r.length ≡ length_in (cond x (some (r.score, r.length)) none)
-    by true e = refl
-    by false e = (h e).1
+said_length : (r : Option Report) → length_of r ≡ length_in (result_of r)
+said_length (Some r) = refl
+said_length None = refl
 
 module _ (p : Pattern) (sound : sound_of p ≡ true) where
   -- what the code makes of the pattern once a piece
-  abbrev pub ground : Ground
-  ground = ground_of (layout p) p.weighing p.edges p.edgecount (kind_flags false p) (kind_flags true p) p.low
+  abbrev pub ground : Common
+  ground = common_of p
 
   -- a layout that is the pattern's has its parts in order and as many cells as needed
   pub layout-made : (l : Layout) → l ≡ layout p → Laid l × (cells_in l ≡ cells_needed p)
@@ -254,23 +221,20 @@ module _ (p : Pattern) (sound : sound_of p ≡ true) where
         ∙ reports-only-cells (weighting_of p.weighing) (held_automaton p) same_clocks p.high (cell_states p) p.low (next (weighting_of p.weighing) (held_automaton p) same_clocks p.high (cell_states p) (piece_view p last vs i) (held_by p (to i))) (meant (suc i))
         (only-cells (weighting_of p.weighing) (held_automaton p) same_clocks p.high (cell_states p) (λ _. piece_view p last vs i) (held_by p (to i)) (meant i) (holds-to i) 1)
 
-    blank : (i : ℕ) → Blank (report_in ground (view_in p last vs) (view_in p vs vs) t i)
-    blank i = unfound (layout p) p.weighing (view_at (view_in p last vs) (view_in p vs vs) i) p.edges p.edgecount (kind_flags true p) p.low (to i)
+    pub score-to : (i : ℕ) → score_of (report_in ground (view_in p last vs) (view_in p vs vs) t i) ≡ score_in (monitor.report_of p (meant (suc i)))
+    score-to i = said_score (report_in ground (view_in p last vs) (view_in p vs vs) t i) ∙ ap score_in (report-found i)
 
-    pub score-to : (i : ℕ) → (report_in ground (view_in p last vs) (view_in p vs vs) t i).score ≡ score_in (monitor.report_of p (meant (suc i)))
-    score-to i = said_score (report_in ground (view_in p last vs) (view_in p vs vs) t i) (blank i) ∙ ap score_in (report-found i)
-
-    pub length-told : (i : ℕ) → (report_in ground (view_in p last vs) (view_in p vs vs) t i).length ≡ length_in (monitor.report_of p (meant (suc i)))
-    length-told i = said_length (report_in ground (view_in p last vs) (view_in p vs vs) t i) (blank i) ∙ ap length_in (report-found i)
+    pub length-told : (i : ℕ) → length_of (report_in ground (view_in p last vs) (view_in p vs vs) t i) ≡ length_in (monitor.report_of p (meant (suc i)))
+    length-told i = said_length (report_in ground (view_in p last vs) (view_in p vs vs) t i) ∙ ap length_in (report-found i)
 
     -- ---- a piece, told
 
-    pub telling : (scores lengths d : ℕ) → d ≤ scores → d ≤ lengths → Telling ground (view_in p last vs) (view_in p vs vs) t scores lengths d
-    unfolding layout_of table_to
+    pub telling : (scores lengths d : ℕ) → d ≤ scores → d ≤ lengths → Telling (layout p) (view_in p last vs) (view_in p vs vs) t scores lengths d
     telling scores lengths d a b =
         record {
-          first = ticking_to 0;
-          later = view_known vs fine vs;
+          first = known_gains (view_known vs fine last);
+          later = known_gains (view_known vs fine vs);
+          whole = whole;
           scores_long = a;
           lengths_long = b;
         }

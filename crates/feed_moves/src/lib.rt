@@ -16,14 +16,14 @@ ghost use Rattle.monitor.specs.Feed.{cell_fine, feed_cause, table_after};
 ghost use Rattle.feed_moves.specs.Piece.{table_in, scores_in, lengths_in};
 
 use cells::{Layout, layout_of};
-use feed_ticks::{kind_flags, repeat_last, tell_all, view_in};
+use feed_ticks::{ground_of, kind_flags, repeat_last, tell_all, view_in};
 use flags::raise_starts;
 use monitor::State;
 use pattern::Pattern;
-use record::rules::least;
 use table_tick::clear;
 
 // The needed cells of the second table are all marks. Only the contract speaks of the pattern.
+// The layout is made once a call and handed on; that the pattern is sound is no type, as in `cells::layout_of`.
 pub fn mark_all(p: Pattern, l: Layout, second: &mut [i64])
     requires p_value { (sound_of p ≡ true) × (l ≡ layout p) }
     requires p_in_bounds { cells_needed p ≤ length second.old }
@@ -33,6 +33,7 @@ pub fn mark_all(p: Pattern, l: Layout, second: &mut [i64])
 }
 
 // What opening does when it is not refused.
+// Both tables, as a host in C lends them; the pattern is sound, and no type says so, as in `cells::layout_of`.
 pub fn open_both(p: Pattern, first: &mut [i64], second: &mut [i64])
     requires p_value { sound_of p ≡ true }
     requires p_in_bounds { cells_needed p ≤ length first.old }
@@ -41,9 +42,8 @@ pub fn open_both(p: Pattern, first: &mut [i64], second: &mut [i64])
     ensures second_after { second.new ≡ marks p second.old }
 {
     let l = layout_of(p, p.high);
-    let w = p.weighing;
     let starts = kind_flags(false, p);
-    table_tick::open(first, l, w, starts);
+    table_tick::open(first, l, p.weighing, starts);
     mark_all(p, l, second);
 }
 
@@ -63,17 +63,13 @@ fn last_after(last: [i32; 8], values: &[i32]) -> [i32; 8]
     ensures { result ≡ values.now ++ drop (length values.now) last }
 {
     let mut kept = last;
-    let mut i: usize = 0;
-    while i < values.len() {
-        let value = values[i];
-        kept[i] = value;
-        i += 1;
-    }
+    kept[..values.len()].copy_from_slice(values);
     kept
 }
 
 // The ticks of a piece, each with its report. All its ticks but the first are alike, so that after high + 1 ticks the table
 // stands still: the rest of the reports is the last one again.
+// The slices come one by one, as a host in C lends them; the layout is made once a call and handed on.
 fn tell_piece(
     p: Pattern,
     l: Layout,
@@ -96,23 +92,17 @@ fn tell_piece(
         ≡ lengths_in p last.now values.now first.old duration lengths.old }
     ensures flagged { Flagged (layout p) first.new flags.new }
 {
-    let w = p.weighing;
+    let g = ground_of(p, l);
     let v = view_in(p, last, values);
     let u = view_in(p, values, values);
-    let edges = p.edges;
-    let starts = kind_flags(false, p);
-    let ends = kind_flags(true, p);
-    let count = p.edgecount as usize;
-    let low = p.low as usize;
     let still = p.high as u32 + 1;
-    let moved = least(duration, still) as usize;
-    tell_all(
-        first, flags, scores, lengths, moved, l, w, v, u, edges, count, starts, ends, low,
-    );
+    let moved = duration.min(still) as usize;
+    tell_all(first, flags, scores, lengths, moved, &g, &v, &u);
     repeat_last(scores, lengths, moved, duration as usize);
 }
 
 // What feeding does to the first table and the report slices when it is not refused.
+// The slices come one by one, as there.
 pub fn feed_piece(
     s: State,
     p: Pattern,
@@ -137,18 +127,8 @@ pub fn feed_piece(
     ensures flagged { Flagged (layout p) first.new flags.new }
 {
     let last = s.last;
-    let n = p.channels as usize;
-    tell_piece(
-        p,
-        l,
-        &last[..n],
-        duration,
-        values,
-        first,
-        flags,
-        scores,
-        lengths,
-    );
+    let used = &last[..p.channels as usize];
+    tell_piece(p, l, used, duration, values, first, flags, scores, lengths);
     let after = last_after(last, values);
     State {
         ticks: s.ticks + duration,

@@ -1,19 +1,23 @@
--- One place more that holds the same; and reports made one by one, of which the later ones are all alike.
-use Prim.Native.Nat.{ℕ, zero, suc, ◌+◌, ◌-◌, ◌≤◌, ◌<◌}
+-- A part of a list that is filled with the same; and reports made one by one, of which the later ones are all alike.
+use Prim.Native.Nat.{ℕ, zero, suc, ◌+◌, ◌≤◌, ◌<◌}
 use native.Mathlib.Omega.{arith}
 use mathlib.Core.Path.{◌≡◌, sym, ap, ◌∙◌}
 use mathlib.Core.List.{List, ◌++◌, map}
-use lib.ListN.{length, drop, set}
+use native.Mathlib.Numerals.{add-one}
+use lib.ListN.{length, drop, set, replicate}
+use lib.Seq.{paste}
+use Rattle.std.proofs.lemmas.List.Edits.{paste_none, fill_from_more}
 use Rattle.monitor.specs.Cells.{up_to}
 use Rattle.feed_ticks.specs.Ticks.{repeated}
 use Rattle.feed_ticks.proofs.Told.{made_more}
 
-pub repeated-more : {A : Type 0} (l : List A) (from i : ℕ) (a : A) → from ≤ i → set (repeated l from (i - from) a) i a ≡ repeated l from (i + 1 - from) a
+pub repeated-paste : {A : Type 0} (l : List A) (from n : ℕ) (a : A) → from + n ≤ length l → paste l from (replicate n a) n ≡ repeated l from n a
 unfolding repeated
-repeated-more l from i a h =
-    let e : i + 1 - from ≡ suc (i - from) = omega arith in
-    let f : from + (i - from) ≡ i = omega arith in
-    rw (e, f)
+repeated-paste l from zero a h = sym (paste_none l from (replicate 0 a))
+repeated-paste {A} l from (suc n) a h =
+    ap (λ (m : ℕ). paste l from (replicate m a) m) (sym (add-one n))
+    ∙ sym (fill_from_more l from n a (omega arith))
+    ∙ ap (λ (u : List A). set u (from + n) a) (repeated-paste l from n a (omega arith))
 
 module _ {A : Type 0} (f : ℕ → A) (l : List A) (m : ℕ) (a d : A) where
   -- the first m are made, and each later one is a

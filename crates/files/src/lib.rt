@@ -4,8 +4,7 @@
 // function ends.
 #![tactic(auto)]
 
-ghost use Rattle.std.specs.Prelude.{◌≤◌, length};
-ghost use Rattle.io.specs.Counts.{IsPrefixLen};
+ghost use Rattle.std.specs.Prelude.{◌≤◌, length, IfOk, IfErr};
 
 use std::fs::{File, OpenOptions};
 use std::io::{ErrorKind, Read, Write};
@@ -31,10 +30,9 @@ fn fail(rt: &HostRuntime, what: &str, error: &io::Error) {
     let free = rest.len();
     let length = text.len().saturating_sub(free);
     let words = str::from_utf8(&text[..length]).unwrap_or("");
-    let words = match words.split_once(" (os error ") {
-        Some((words, _)) => words,
-        None => words,
-    };
+    let words = words
+        .split_once(" (os error ")
+        .map_or(words, |(front, _)| front);
     let _ = eprintln!(rt; "{what}: {words}");
 }
 
@@ -44,9 +42,8 @@ const TURNS: u64 = u64::MAX;
 
 // The file opened for reading, or why it is not. std's paths are text, so another path names no file.
 fn open(rt: &HostRuntime, path: &[u8]) -> io::Result<File> {
-    let path = match str::from_utf8(path) {
-        Ok(path) => path,
-        Err(_) => return Err(io::Error::from(ErrorKind::InvalidFilename)),
+    let Ok(path) = str::from_utf8(path) else {
+        return Err(io::Error::from(ErrorKind::InvalidFilename));
     };
     for _ in 0..TURNS {
         match File::open(rt, path) {
@@ -57,157 +54,96 @@ fn open(rt: &HostRuntime, path: &[u8]) -> io::Result<File> {
     File::open(rt, path)
 }
 
-// How far a file has been read: the bytes at the start of its buffer, whether more may come, why a read failed if one did.
-#[derive(Clone, Copy)]
-struct Reading {
+// A read that failed, after so many bytes of the file.
+#[derive(Drop)]
+struct Torn {
     at: usize,
-    more: bool,
-    failure: Option<io::Error>,
+    error: io::Error,
 }
 
-// One more read, into the rest of the buffer. It moves nothing at the file's end, and where nothing is left of the buffer.
-fn read_on(file: &mut File, buffer: &mut [u8], at: usize) -> Reading
-    requires { at ≤ length buffer.old }
-    ensures { result.at ≤ length buffer.new }
+// To the file's end, or until the buffer is full: how many bytes it holds then.
+fn read_all(file: &mut File, buffer: &mut [u8]) -> Result<usize, Torn>
+    ensures whole { IfOk result (λ n. n ≤ length buffer.new) }
+    ensures torn { IfErr result (λ torn. torn.at ≤ length buffer.new) }
 {
-    let rest = &mut buffer[at..];
-    match file.read(rest) {
-        Ok(got) => Reading {
-            at: at + got,
-            more: got != 0,
-            failure: None,
-        },
-        Err(error) => {
-            let passing = is_passing(&error);
-            Reading {
-                at: at,
-                more: passing,
-                failure: if passing { None } else { Some(error) },
-            }
+    let mut at = 0;
+    for _ in 0..TURNS {
+        let rest = &mut buffer[at..];
+        match file.read(rest) {
+            Ok(0) => return Ok(at),
+            Ok(got) => at += got,
+            Err(error) if is_passing(&error) => {}
+            Err(error) => return Err(Torn { at, error }),
         }
     }
+    Ok(at)
 }
 
-// To the file's end, or until the buffer is full.
-fn read_all(file: &mut File, buffer: &mut [u8]) -> Reading
-    ensures { IsPrefixLen result.at buffer.new }
-{
-    let mut reading = Reading {
-        at: 0,
-        more: true,
-        failure: None,
-    };
-    let mut turns = TURNS;
-    while turns > 0 && reading.more {
-        reading = read_on(file, buffer, reading.at);
-        turns -= 1;
-    }
-    reading
-}
-
-// What was taken of a file. It is not whole if reading it failed.
-#[derive(Clone, Copy)]
-pub struct Taken {
-    pub length: usize,
-    pub whole: bool,
-}
-
-// The file's bytes, as many as the buffer takes. A file that cannot be opened counts as empty, and so does a folder, which the
-// system opens and then cannot read.
-pub fn read_file(rt: &HostRuntime, path: &[u8], buffer: &mut [u8]) -> Taken
-    ensures { IsPrefixLen result.length buffer.new }
+// The file's bytes, as many as the buffer takes; or, where reading it failed, those that came before. A file that cannot be
+// opened counts as empty, and so does a folder, which the system opens and then cannot read.
+pub fn read_file<'b>(
+    rt: &HostRuntime,
+    path: &[u8],
+    buffer: &'b mut [u8],
+) -> Result<&'b [u8], &'b [u8]>
+    ensures whole { IfOk result (λ bytes. length bytes.now ≤ length buffer.old) }
+    ensures torn { IfErr result (λ bytes. length bytes.now ≤ length buffer.old) }
 {
     let name = str::from_utf8(path).unwrap_or("a path that is no text");
     let mut file = match open(rt, path) {
         Ok(file) => file,
         Err(error) => {
             fail(rt, name, &error);
-            return Taken {
-                length: 0,
-                whole: true,
-            };
+            return Ok(&buffer[..0]);
         }
     };
-    let reading = read_all(&mut file, buffer);
-    let whole = match reading.failure {
-        None => true,
-        Some(error) => {
-            fail(rt, name, &error);
-            error.kind() == ErrorKind::IsADirectory
+    match read_all(&mut file, buffer) {
+        Ok(n) => Ok(&buffer[..n]),
+        Err(torn) => {
+            fail(rt, name, &torn.error);
+            let bytes = &buffer[..torn.at];
+            if torn.error.kind() == ErrorKind::IsADirectory {
+                Ok(bytes)
+            } else {
+                Err(bytes)
+            }
         }
-    };
-    Taken {
-        length: reading.at,
-        whole: whole,
     }
 }
 
-// How far lines have been written, whether a write failed, and whether it did since nobody reads any more.
-#[derive(Clone, Copy)]
-struct Writing {
-    at: usize,
-    failed: bool,
-    closed: bool,
-}
-
-// Whether all bytes were written, a write failed and this was told, or nobody reads the pipe any more.
-#[derive(Clone, Copy)]
-pub enum Written {
-    Whole,
+// Why some bytes are not written: a write failed and this was told, or nobody reads the pipe any more.
+#[derive(Clone, Copy, PartialEq, Eq)]
+pub enum Unwritten {
     Failed,
     Closed,
 }
 
-// One more write, of the bytes from a place on. One that takes nothing has failed, though the system has no error for it.
-fn write_on(rt: &HostRuntime, bytes: &[u8], at: usize) -> Writing
-    requires { at ≤ length bytes.now }
-    ensures { result.at ≤ length bytes.now }
-{
-    let rest = &bytes[at..];
-    match rt.stdout().write(rest) {
-        Ok(got) => {
-            if got == 0 {
+// All the bytes to standard output; or not, and then some of them may be written. A write that takes nothing has failed, though
+// the system has no error for it.
+pub fn write_out(rt: &HostRuntime, bytes: &[u8]) -> Result<(), Unwritten> {
+    let mut rest = bytes;
+    for _ in 0..TURNS {
+        if rest.is_empty() {
+            break;
+        }
+        match rt.stdout().write(rest) {
+            Ok(0) => {
                 let _ = eprintln!(rt; "standard output: nothing is taken");
+                break;
             }
-            Writing {
-                at: at + got,
-                failed: got == 0,
-                closed: false,
-            }
-        }
-        Err(error) => {
-            let closed = error.kind() == ErrorKind::BrokenPipe;
-            let failed = !is_passing(&error);
-            if failed && !closed {
+            Ok(got) => rest = &rest[got..],
+            Err(error) if is_passing(&error) => {}
+            Err(error) if error.kind() == ErrorKind::BrokenPipe => return Err(Unwritten::Closed),
+            Err(error) => {
                 fail(rt, "standard output", &error);
-            }
-            Writing {
-                at: at,
-                failed: failed,
-                closed: closed,
+                break;
             }
         }
     }
-}
-
-// All the bytes to standard output; or not, and then some of them may be written.
-pub fn write_out(rt: &HostRuntime, bytes: &[u8]) -> Written {
-    let mut writing = Writing {
-        at: 0,
-        failed: false,
-        closed: false,
-    };
-    let mut turns = TURNS;
-    while turns > 0 && writing.at < bytes.len() && !writing.failed {
-        writing = write_on(rt, bytes, writing.at);
-        turns -= 1;
-    }
-    if writing.at == bytes.len() {
-        Written::Whole
-    } else if writing.closed {
-        Written::Closed
+    if rest.is_empty() {
+        Ok(())
     } else {
-        Written::Failed
+        Err(Unwritten::Failed)
     }
 }
 
@@ -228,8 +164,10 @@ fn sync_out(rt: &HostRuntime) -> io::Result<()> {
 
 // Whether an error says that the file system keeps nothing back, and so was not asked.
 fn is_unasked(error: &io::Error) -> bool {
-    let kind = error.kind();
-    kind == ErrorKind::InvalidInput || kind == ErrorKind::Unsupported
+    matches!(
+        error.kind(),
+        ErrorKind::InvalidInput | ErrorKind::Unsupported
+    )
 }
 
 // The end of the output. Some file systems tell only here that a write failed. A signal is no such failure, and neither is a

@@ -6,7 +6,7 @@ ghost use Rattle.std.specs.Prelude.{◌≡◌, ◌^◌, ◌≤◌, ◌<◌, cond
 ghost use Rattle.std.specs.Int.Bits.{bit_or};
 ghost use Rattle.flags.specs.Flags.{bit_at, raised, start_flags};
 
-// Is bit i of a number set?
+// Is bit i of a number set? Which bit is a number below 32, here and below: a type of its own would be made at each call.
 pub fn has_bit(x: u32, i: usize) -> bool
     requires { i < 32 }
     ensures { result ≡ eqb (bit_at x i) 1 }
@@ -14,7 +14,7 @@ pub fn has_bit(x: u32, i: usize) -> bool
     (x >> i) % 2 == 1
 }
 
-// A number with bit i set, if `on` says so.
+// A number with bit i set, if `on` says so, as the definition has it.
 pub fn with_bit(x: u32, i: usize, on: bool) -> u32
     requires { i < 32 }
     ensures { result ≡ cond on (bit_or x (2 ^ i)) x }
@@ -27,29 +27,18 @@ pub fn raise(flags: &mut [u32], n: usize, i: usize)
     requires { (n < length flags.old) × (i < 32) }
     ensures { flags.new ≡ raised flags.old n i }
 {
-    let f = flags[n];
-    flags[n] = with_bit(f, i, true);
-}
-
-// That of block i of row 0, if `on` says so.
-fn raise_if(flags: &mut [u32], on: bool, i: usize)
-    requires { (0 < length flags.old) × (i < 32) }
-    ensures { flags.new ≡ cond on (raised flags.old 0 i) flags.old }
-{
-    if on {
-        raise(flags, 0, i);
-    }
+    flags[n] = with_bit(flags[n], i, true);
 }
 
 // The flags of the start places' blocks, where empty runs stand.
+// With a count, as the definition has it.
 pub fn raise_starts(flags: &mut [u32], starts: [bool; 16], count: usize)
     requires { (0 < length flags.old) × (count ≤ 16) }
     ensures { flags.new ≡ start_flags starts count flags.old }
 {
-    let mut p: usize = 0;
-    while p < count {
-        let on = starts[p];
-        raise_if(flags, on, p);
-        p += 1;
+    for (p, on) in starts[..count].iter().enumerate() {
+        if *on {
+            raise(flags, 0, p);
+        }
     }
 }

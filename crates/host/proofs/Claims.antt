@@ -12,14 +12,12 @@ use Rattle.pattern_text.specs.Text.{accepted, refused}
 use Rattle.record.specs.Record.{record_sound, book_of}
 use Rattle.record.specs.Run.{steps_of}
 use Rattle.record.specs.Worth.{price_of}
-use Rattle.price.specs.declared.Priced.{Priced}
-use Rattle.price.specs.declared.Priced.TheVariants as priced
 use Rattle.price.specs.Price.{steps_fit, priced_as, scored_as, priced_of}
 use Rattle.price.proofs.Numbers.{priced_numbers_lem}
-use Rattle.monitor.specs.Open.{unless_refused, table_too_short}
-use Rattle.best.specs.declared.Found.{Found}
-use Rattle.best.specs.declared.Found.TheVariants as found
-use Rattle.best.specs.Best.{Chosen, best_refusal, answered, best_of, chosen_of, found_as, chosen_as}
+use Rattle.monitor.specs.Open.{answer_of, unless_refused, table_too_short}
+use Rattle.std.specs.Prelude.{Option as Maybe, Some, None, Result, Ok, Err}
+use Rattle.best.specs.declared.Run.{Run}
+use Rattle.best.specs.Best.{Chosen, best_refusal, run_of, best_of, chosen_of, found_as, chosen_as}
 use Rattle.best.proofs.Answer.{best_numbers_lem}
 use Rattle.host_monitor.proofs.Claims.{read-sound}
 use Rattle.host_told.specs.Told.{price_told, best_told}
@@ -27,9 +25,9 @@ use Rattle.host.specs.Claims.{PriceNumbers, RecordNumbers, BestRefusedAltersNoth
 
 -- ---- the numbers
 
-price_refusal : (a : Priced) → (price_told a).refusal ≡ (priced_as a).0
-price_refusal (priced.Score w) = refl
-price_refusal (priced.Refused r) = refl
+price_refusal : (a : Result ℤ Refusal) → (price_told a).refusal ≡ (priced_as a).0
+price_refusal (Ok w) = refl
+price_refusal (Err r) = refl
 
 price-by : (a b : Bool) (k : ℕ × ℤ) → (cond a (cond b k (9, pos 0)) (8, pos 0)).0 ≡ cond a (cond b k.0 9) 8
 price-by true true k = refl
@@ -41,10 +39,10 @@ price-numbers x p e ds vs begin es ss =
     rw (e, price_refusal (priced_of p ds vs begin es ss), priced_numbers_lem p ds vs begin es ss, read-sound x p e)
     (price-by (record_sound p.channels ds vs) (steps_fit ds begin es ss) (scored_as (price_of p (book_of p.channels ds vs) begin (steps_of es ss))))
 
-best_refusal_lem : (a : Found) → (best_told a).refusal ≡ (found_as a).0
-best_refusal_lem (found.Run end begin score) = refl
-best_refusal_lem found.Nothing = refl
-best_refusal_lem (found.Refused r) = refl
+best_refusal_lem : (a : Result (Maybe Run) Refusal) → (best_told a).refusal ≡ (found_as a).0
+best_refusal_lem (Ok (Some r)) = refl
+best_refusal_lem (Ok None) = refl
+best_refusal_lem (Err r) = refl
 
 best_by : (a b : Bool) (k : Option (ℕ × ℕ × ℤ)) → (cond {A = ℕ × Option (ℕ × ℕ × ℤ)} (not a) (8, none) (cond b (11, none) (0, k))).0 ≡ cond (not a) 8 (cond b 11 0)
 best_by true true k = refl
@@ -58,7 +56,7 @@ record_numbers x p e ds vs t u =
 
 -- ---- a refusal alters nothing
 
-best_still : (o : Option Refusal) (f : Option Chosen) (t u t' u' : List ℤ) → 1 ≤ (best_told (answered o f)).refusal
+best_still : (o : Option Refusal) (f : Option Chosen) (t u t' u' : List ℤ) → 1 ≤ (best_told (answer_of (run_of f) o)).refusal
     → (unless_refused o t' t ≡ t) × (unless_refused o u' u ≡ u)
 best_still (some r) f t u t' u' h = (refl, refl)
 best_still none none t u t' u' h = absurd (omega arith)

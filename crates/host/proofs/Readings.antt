@@ -1,23 +1,15 @@
--- The answer to a text, by the outcome that its reading has.
-use Prim.Native.Nat.{ℕ}
-use native.Mathlib.Omega.{arith}
-use mathlib.Core.Path.{◌≡◌, sym, ap, ◌∙◌}
+-- The answer to a text, by what its reading hands back.
+use mathlib.Core.Path.{◌≡◌, ap}
+use Rattle.std.specs.Prelude.{Ok, Err}
+use Rattle.pattern.specs.declared.Pattern.{Pattern}
 use Rattle.pattern.specs.declared.Refusal.{Refusal}
 use Rattle.pattern_text.specs.Text.{Answer, accepted, refused}
-use Rattle.pattern_read.specs.declared.PatternRead.{PatternRead}
-use Rattle.pattern_read.specs.declared.Outcome.TheVariants as outcome
 use Rattle.pattern_read.specs.Reading.{reading_of}
 
-pub accepted-is : (a : Answer) (r : PatternRead) → r ≡ reading_of a → r.outcome ≡ outcome.Accepted → a ≡ accepted r.pattern
-accepted-is (accepted p) r e o = ap (λ (x : PatternRead). accepted x.pattern) (sym e)
-accepted-is (refused q) r e o =
-    let f : outcome.Accepted ≡ outcome.Refused q = sym o ∙ ap (λ (x : PatternRead). x.outcome) e in
-    let z : ◌≡◌ {A = ℕ} 0 1 = cc in absurd (omega arith)
+pub accepted_is : (a : Answer) (p : Pattern) → Ok p ≡ reading_of a → a ≡ accepted p
+accepted_is (accepted q) p e = let f : q ≡ p = cc in ap accepted f
+accepted_is (refused r) p e = cc
 
-pub refused_is : (a : Answer) (r : PatternRead) (q : Refusal) → r ≡ reading_of a → r.outcome ≡ outcome.Refused q → a ≡ refused q
-refused_is (accepted p) r q e o =
-    let f : outcome.Refused q ≡ outcome.Accepted = sym o ∙ ap (λ (x : PatternRead). x.outcome) e in
-    let z : ◌≡◌ {A = ℕ} 0 1 = cc in absurd (omega arith)
-refused_is (refused k) r q e o =
-    let f : outcome.Refused q ≡ outcome.Refused k = sym o ∙ ap (λ (x : PatternRead). x.outcome) e in
-    let g : k ≡ q = cc in ap refused g
+pub refused_is : (a : Answer) (r : Refusal) → Err r ≡ reading_of a → a ≡ refused r
+refused_is (accepted p) r e = cc
+refused_is (refused q) r e = let f : q ≡ r = cc in ap refused f

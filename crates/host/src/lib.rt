@@ -12,30 +12,27 @@ ghost use Rattle.host_monitor.specs.Calls.{opened_number, opened_state, opened_f
 ghost use Rattle.host_monitor.specs.Calls.{fed_number, fed_state, fed_first, fed_second, fed_scores, fed_lengths};
 ghost use Rattle.host.specs.Answers.{run_price, record_best, record_first, record_second};
 
-use best::{Found, best};
-use host_monitor::{cause_number, feed_pattern, open_pattern};
-use host_told::{RecordBest, RunPrice, best_told, counted_cells, outcome_number, price_told};
-use pattern_read::Outcome;
-use price::{Priced, price};
+use best::best;
+use host_monitor::{feed_pattern, open_pattern};
+use host_told::{RecordBest, RunPrice, answer_number, cause_number, counted_cells};
+use pattern::cells;
+use pattern_read::read;
+use price::price;
 
 // "0 or the refusal from the check"
 #[unsafe(no_mangle)]
 pub extern "C" fn pattern_check(text: &[u8]) -> u32
     ensures { result ≡ check_of (read_of text.now) }
 {
-    let reading = pattern_read::read(text);
-    let outcome = reading.outcome;
-    outcome_number(outcome)
+    answer_number(&read(text))
 }
 
-// "the cells or 0 for a refused text from the count". Beside a refusal stands a pattern of zeros, which is not sound.
+// "the cells or 0 for a refused text from the count"
 #[unsafe(no_mangle)]
 pub extern "C" fn pattern_cells(text: &[u8]) -> u64
     ensures { result ≡ count_of (read_of text.now) }
 {
-    let reading = pattern_read::read(text);
-    let p = reading.pattern;
-    counted_cells(pattern::cells(p))
+    counted_cells(read(text).and_then(cells))
 }
 
 // Opening: 1 to 5, 11, then 12 for a state's slice of fewer than 9 entries.
@@ -55,12 +52,9 @@ pub extern "C" fn monitor_open(
     ensures second_after { second.new ≡ opened_second (read_of text.now)
         state.old first.old second.old }
 {
-    let reading = pattern_read::read(text);
-    let p = reading.pattern;
-    let outcome = reading.outcome;
-    match outcome {
-        Outcome::Accepted => open_pattern(p, state, first, second),
-        Outcome::Refused(cause) => cause_number(cause),
+    match read(text) {
+        Ok(p) => answer_number(&open_pattern(p, state, first, second)),
+        Err(cause) => cause_number(cause),
     }
 }
 
@@ -94,14 +88,11 @@ pub extern "C" fn monitor_feed(
         ≡ fed_lengths (read_of text.now) state.old first.old second.old
         (call_of duration values.now scores.old lengths.old) }
 {
-    let reading = pattern_read::read(text);
-    let p = reading.pattern;
-    let outcome = reading.outcome;
-    match outcome {
-        Outcome::Accepted => {
-            feed_pattern(p, state, first, second, duration, values, scores, lengths)
-        }
-        Outcome::Refused(cause) => cause_number(cause),
+    match read(text) {
+        Ok(p) => answer_number(&feed_pattern(
+            p, state, first, second, duration, values, scores, lengths,
+        )),
+        Err(cause) => cause_number(cause),
     }
 }
 
@@ -118,12 +109,9 @@ pub extern "C" fn run_price(
     ensures { result ≡ run_price (read_of text.now) durations.now values.now begin
         edges.now stays.now }
 {
-    let reading = pattern_read::read(text);
-    let p = reading.pattern;
-    let outcome = reading.outcome;
-    match outcome {
-        Outcome::Accepted => price_told(price(p, durations, values, begin, edges, stays)),
-        Outcome::Refused(cause) => price_told(Priced::Refused(cause)),
+    match read(text) {
+        Ok(p) => RunPrice::from(price(p, durations, values, begin, edges, stays)),
+        Err(cause) => RunPrice::from(Err(cause)),
     }
 }
 
@@ -143,11 +131,8 @@ pub extern "C" fn record_best(
     ensures second_after { second.new ≡ record_second (read_of text.now) durations.now values.now
         first.old second.old }
 {
-    let reading = pattern_read::read(text);
-    let p = reading.pattern;
-    let outcome = reading.outcome;
-    match outcome {
-        Outcome::Accepted => best_told(best(p, durations, values, first, second)),
-        Outcome::Refused(cause) => best_told(Found::Refused(cause)),
+    match read(text) {
+        Ok(p) => RecordBest::from(best(p, durations, values, first, second)),
+        Err(cause) => RecordBest::from(Err(cause)),
     }
 }

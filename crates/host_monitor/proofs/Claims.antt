@@ -31,7 +31,7 @@ read-sound x p e = ((texts_exact x p).0 e).0
 
 -- ---- the numbers
 
-open_by : (b : Bool) (n : ℕ) → number_or (answer_of (cond b (some TableTooShort) none)) n ≡ cond b 11 n
+open_by : (b : Bool) (n : ℕ) → number_or (answer_of (tt {0}) (cond b (some TableTooShort) none)) n ≡ cond b 11 n
 open_by true n = refl
 open_by false n = refl
 
@@ -48,7 +48,7 @@ fed_numbers x p e l t u c = rw (e, feed-numbers p (state_in l) t u c, read-sound
 
 -- ---- a refusal alters nothing
 
-open_still : (b : Bool) (o : Option Refusal) (l t u l' t' u' : List ℤ) → 1 ≤ number_or (answer_of o) (cond b 0 12)
+open_still : (b : Bool) (o : Option Refusal) (l t u l' t' u' : List ℤ) → 1 ≤ number_or (answer_of (tt {0}) o) (cond b 0 12)
     → (cond b (unless_refused o l' l) l ≡ l) × (cond b (unless_refused o t' t) t ≡ t) × (cond b (unless_refused o u' u) u ≡ u)
 open_still true none l t u l' t' u' h = absurd (omega arith)
 open_still true (some r) l t u l' t' u' h = (refl, refl, refl)
@@ -59,7 +59,7 @@ open_refused_alters_nothing (refused r) l t u h = (refl, refl, refl)
 open_refused_alters_nothing (accepted p) l t u h = open_still (leb 9 (length l)) (open_refusal p (length t) (length u)) l t u _ _ _ h
 
 module _ (l t u : List ℤ) (c : Call) (s : State) (t' u' ss : List ℤ) (ls : List ℕ) where
-  feed-still : (b : Bool) → holds_state l ≡ b → (o : Option Refusal) → 1 ≤ cond b (answer_number (answer_of o)) 12
+  feed-still : (b : Bool) → holds_state l ≡ b → (o : Option Refusal) → 1 ≤ cond b (answer_number (answer_of (tt {0}) o)) 12
       → (cond b (with_state (unless_refused o s (state_in l)) l) l ≡ l) × (cond b (unless_refused o t' t) t ≡ t) × (cond b (unless_refused o u' u) u ≡ u)
       × (cond b (unless_refused o ss c.scores) c.scores ≡ c.scores) × (cond b (unless_refused o ls c.lengths) c.lengths ≡ c.lengths)
   feed-still true e none h = absurd (omega arith)

@@ -102,7 +102,7 @@ some_number TooManyTicks = omega arith
 some_number BrokenCell = omega arith
 
 -- an opening that was accepted: there was no cause, and the slice has room for a state
-open_said : (b : Bool) (o : Option Refusal) → number_or (answer_of o) (cond b 0 12) ≡ 0 → (b ≡ true) × (o ≡ none)
+open_said : (b : Bool) (o : Option Refusal) → number_or (answer_of (tt {0}) o) (cond b 0 12) ≡ 0 → (b ≡ true) × (o ≡ none)
 open_said true none e = (refl, refl)
 open_said false none e = absurd (omega arith)
 open_said b (some r) e = let k = some_number r in absurd (omega arith)

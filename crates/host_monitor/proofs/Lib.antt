@@ -1,4 +1,3 @@
--- Laws of the two calls; the claims; demand 3 of them.
-pub mod CallLaws
+-- The claims; demand 3 of the two calls.
 pub mod Claims
 pub mod Demand

@@ -1,12 +1,11 @@
 -- What opening and feeding hand back to a host in C, and what they leave of what it lent: by the answer to the pattern's text,
 -- what the library's definitions say of the pattern that was read. A refused text gives the reader's number and alters
 -- nothing. The state's slice is read and written as `state_slice/specs` says.
-use Rattle.std.specs.Prelude.{ℕ, List, cond, leb, length, ℤ}
+use Rattle.std.specs.Prelude.{ℕ, List, cond, leb, length, ℤ, Result, Ok, Err}
+use Rattle.pattern.specs.declared.Refusal.{Refusal}
 use Rattle.pattern.specs.declared.Refusal.TheVariants.{BrokenState}
 use Rattle.pattern.specs.Refusal.{number_of}
 use Rattle.pattern_text.specs.Text.{Answer, accepted, refused}
-use Rattle.monitor.specs.declared.Answer as monitor
-use Rattle.monitor.specs.declared.Answer.TheVariants.{Done, Refused}
 use Rattle.monitor.specs.State.{no_ticks}
 use Rattle.monitor.specs.Open.{answer_number, unless_refused, open_refusal, open_answer, open_first, open_second}
 use Rattle.monitor.specs.Feed.{Call, feed_answer, feed_state, feed_first, feed_second, feed_scores, feed_lengths}
@@ -15,9 +14,9 @@ use Rattle.state_slice.specs.Slice.{holds_state, state_in, with_state}
 -- ---- opening: 7, 11, then 12 for a slice that has no room for a state; what the slice held does not matter
 
 -- the refusal's number, or another where there is none
-abbrev pub number_or : monitor.Answer → ℕ → ℕ
-number_or Done n = n
-number_or (Refused r) n = number_of r
+abbrev pub number_or : Result (Unit {0}) Refusal → ℕ → ℕ
+number_or (Ok a) n = n
+number_or (Err r) n = number_of r
 
 abbrev pub opened_number : Answer → (state first second : List ℤ) → ℕ
 opened_number (refused r) l t u = number_of r

@@ -13,7 +13,7 @@ use Rattle.pattern.specs.Slots.{all}
 use Rattle.pattern_text.specs.Text.{pad}
 use Rattle.pattern_text.proofs.Tools.{by-test}
 use Rattle.pattern_text.proofs.ForCode.{pad_snoc}
-use Rattle.text_scan.specs.Scan.{cap, held}
+use Rattle.text_scan.specs.Scan.{cap, held_integer}
 
 pub min-leb : (c k n : ℕ) → k < c → leb (min c n) k ≡ leb n k
 min-leb c k n h = by-test (leb n k)
@@ -25,14 +25,14 @@ min-ltb c k n h = by-test (ltb n k)
     (λ t. rw t (lt-ltb (min c n) k (omega (arith, ltb-true n k t))))
     (λ t. rw t (le-ltb (min c n) k (omega (arith, ltb-false n k t))))
 
-pub held-leb : (z : ℤ) → leb (nat_abs (held z)) 1_000_000 ≡ leb (nat_abs z) 1_000_000
+pub held-leb : (z : ℤ) → leb (nat_abs (held_integer z)) 1_000_000 ≡ leb (nat_abs z) 1_000_000
 held-leb (pos n) = min-leb cap 1_000_000 n (omega arith)
 held-leb (negsuc n) = by-test (leb (suc n) 1_000_000)
     (λ t. rw t (le-leb (suc (min 1_000_000 n)) 1_000_000 (omega (arith, leb-true (suc n) 1_000_000 t))))
     (λ t. rw t (lt-leb (suc (min 1_000_000 n)) 1_000_000 (omega (arith, leb-false (suc n) 1_000_000 t))))
 
 -- a number in its range is held as itself
-pub held-is : (z : ℤ) → leb (nat_abs z) 1_000_000 ≡ true → held z ≡ z
+pub held-is : (z : ℤ) → leb (nat_abs z) 1_000_000 ≡ true → held_integer z ≡ z
 held-is (pos n) h = ap pos (omega (arith, leb-true n 1_000_000 h))
 held-is (negsuc n) h = ap negsuc (omega (arith, leb-true (suc n) 1_000_000 h))
 

@@ -1,6 +1,5 @@
--- Laws: the lists of a line at a position.
+-- Laws: the lists of a line.
 pub mod Gather
 pub mod Held
-pub mod TestsLaws
-pub mod GuardsLaws
+pub mod PartsLaws
 pub mod ResetsLaws

@@ -1,3 +1,4 @@
--- Definitions: the lists of a line at a position.
+-- Definitions: the lists of a line.
 pub mod Lists
 pub mod ResetList
+pub mod Shorter

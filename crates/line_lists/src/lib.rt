@@ -1,222 +1,174 @@
-// The lists of a line of a pattern text at a position: a place's tests, an edge's guards and resets.
+// The lists of a line of a pattern text at the front of a text: a place's tests, an edge's guards and resets.
 #![tactic(auto)]
 
-ghost use Rattle.std.specs.Prelude.{◌≡◌, ◌≤◌, length};
-ghost use Rattle.pattern.specs.Sound.{guard_in_range};
-ghost use Rattle.text_scan.specs.Scan.{cap};
-ghost use Rattle.line_lists.specs.Lists.{
-  no_tests,
-  add_test,
-  test_turn,
-  tests_at,
-  no_guards,
-  add_guard,
-  guard_turn,
-  guards_at,
-};
-ghost use Rattle.line_lists.specs.ResetList.{no_resets, add_reset, reset_turn, further_at, bracket_at, resets_at};
+ghost use Rattle.std.specs.Prelude.{◌≡◌, ◌≤◌, ◌<◌, ℕ, Bool, List, ◌∷◌, length, map};
+ghost use Rattle.pattern.specs.Sound.{no_test, no_guard, test_in_range, test_known, guard_in_range, guard_known};
+ghost use Rattle.pattern_text.specs.Bytes.{Bytes, Reading, got};
+ghost use Rattle.pattern_text.specs.Form.{giving, read_many, many, ◌▸◌, number};
+ghost use Rattle.pattern_text.specs.Line.{test_of, test, guard, bracket, resets};
+ghost use Rattle.text_scan.specs.Scan.{read_of, cap};
+ghost use Rattle.line_parts.specs.Parts.{held_raw, held_guard};
+ghost use Rattle.line_lists.specs.Lists.{no_parts, with_part, gathered, gathered_tests, gathered_guards};
+ghost use Rattle.line_lists.specs.ResetList.{no_resets, add_reset, added};
+ghost use Rattle.line_lists.specs.Shorter.{test_shorter, guard_shorter};
 
-use line_parts::{GuardRead, TestRead};
-use pattern::{Guard, Sign, Test};
-use text_scan::{Found, Number};
+use line_parts::{read_guard, read_spaced, read_test};
+use pattern::slots::test_in_range;
+use pattern::{Guard, NO_GUARD, NO_TEST, Test};
+use text_scan::{read_number, read_word};
 
-// The tests of a place as read so far: the first four, their number held at five, whether all their numbers are in
-// range and every channel known.
+// A part that stands in a list, any number of times.
+pub trait Part: Copy {
+    ghost reads: { Bytes → Reading Self };
+
+    ghost unused: { Self };
+
+    ghost in_range: { Self → Bool };
+
+    ghost known: { ℕ → Self → Bool };
+
+    fn read(text: &[u8]) -> Option<(Self, &[u8])>
+        ensures { read_of result ≡ reads text.now };
+
+    // What stands in a slot that is not in use.
+    fn unused() -> Self
+        ensures { result ≡ unused };
+
+    // Whether its numbers are in range.
+    fn is_in_range(self) -> bool
+        ensures { result ≡ in_range self };
+
+    // Whether the pattern has what it names, of `count` such things.
+    fn is_known(self, count: u8) -> bool
+        ensures { result ≡ known count self };
+
+    // It takes some bytes of the text.
+    ghost shorter: { (b : Bytes) (a : Self) (r : Bytes) → reads b ≡ got a r → length r < length b };
+}
+
+// The parts of a list as read so far: the first ones, their number, held at 256, whether all their numbers are in range,
+// and whether all that they name is known.
+// An array and a count, since nothing is allocated.
 #[derive(Clone, Copy)]
-pub struct Tests {
-    pub tests: [Test; 4],
-    pub count: u8,
-    pub inrange: bool,
+pub struct Parts<T, const N: usize> {
+    pub parts: [T; N],
+    pub count: u16,
+    pub in_range: bool,
     pub known: bool,
 }
 
-// `more`: whether another may follow at `next`.
-#[derive(Clone, Copy)]
-pub struct TestsRead {
-    pub tests: Tests,
-    pub next: usize,
-    pub more: bool,
-}
-
-pub fn no_tests() -> Tests
-    ensures { result ≡ no_tests }
-{
-    let t = Test {
-        sign: Sign::Less,
-        channel: 0,
-        band: false,
-        bound: 0,
-        high: 0,
-    };
-    Tests {
-        tests: [t; 4],
-        count: 0,
-        inrange: true,
-        known: true,
-    }
-}
-
-// One test more.
-fn add_test(s: Tests, t: Test, channels: u8) -> Tests
-    ensures { result ≡ add_test channels s t }
-{
-    let c = t.channel;
-    let inrange = line_parts::both(s.inrange, pattern::slots::test_in_range(t));
-    let known = line_parts::both(s.known, line_parts::less(c, channels));
-    let count = s.count;
-    let n = count as usize;
-    let mut r = s;
-    r.inrange = inrange;
-    r.known = known;
-    if n < 4 {
-        r.tests[n] = t;
-        r.count = count + 1;
-        return r;
-    }
-    r.count = 5;
-    r
-}
-
-// The test that stands there, if there is one.
-fn test_turn(text: &[u8], s: TestsRead, channels: u8) -> TestsRead
-    requires { s.next ≤ length text.now }
-    ensures { result ≡ test_turn channels text.now s }
-{
-    let at = s.next;
-    let tests = s.tests;
-    match line_parts::test_at(text, at) {
-        TestRead::Broken => TestsRead {
-            tests,
-            next: at,
-            more: false,
-        },
-        TestRead::Value(t, next) => {
-            let tests = add_test(tests, t, channels);
-            TestsRead {
-                tests,
-                next,
-                more: true,
-            }
+impl<T: Part, const N: usize> Parts<T, N> {
+    fn none() -> Parts<T, N>
+        ensures { result ≡ no_parts N T.unused }
+    {
+        Parts {
+            parts: [T::unused(); N],
+            count: 0,
+            in_range: true,
+            known: true,
         }
     }
+
+    // One part more.
+    fn with(mut self, part: T, count: u8) -> Parts<T, N>
+        ensures { result ≡ with_part T.in_range (T.known count) self part }
+    {
+        let n = usize::from(self.count);
+        self.count = self.count.min(255) + 1;
+        self.in_range = self.in_range & part.is_in_range();
+        self.known = self.known & part.is_known(count);
+        if n < N {
+            self.parts[n] = part;
+        }
+        self
+    }
+}
+
+// As many parts as stand there.
+pub fn read_parts<T: Part, const N: usize>(text: &[u8], count: u8) -> (Parts<T, N>, &[u8])
+    requires { N < 256 }
+    ensures { got result.0 result.1.now ≡ giving (gathered N T.unused (λ x. x) T.in_range (T.known count)) (read_many T.reads (length text.now) text.now) }
+{
+    let mut all = Parts::none();
+    let mut rest = text;
+    while let Some((part, next)) = T::read(rest) {
+        all = all.with(part, count);
+        rest = next;
+    }
+    (all, rest)
+}
+
+impl Part for Test {
+    ghost reads = { λ b. giving held_raw (test.read b) };
+
+    ghost unused = { no_test };
+
+    ghost in_range = { test_in_range };
+
+    ghost known = { test_known };
+
+    fn read(text: &[u8]) -> Option<(Test, &[u8])> {
+        read_test(text)
+    }
+
+    fn unused() -> Test {
+        NO_TEST
+    }
+
+    fn is_in_range(self) -> bool {
+        test_in_range(self)
+    }
+
+    #[tactic(auto, unfolding(pattern::specs::Sound::test_known))]
+    fn is_known(self, count: u8) -> bool {
+        self.channel < count
+    }
+
+    ghost shorter = { test_shorter };
+}
+
+impl Part for Guard {
+    ghost reads = { λ b. giving held_guard (guard.read b) };
+
+    ghost unused = { no_guard };
+
+    ghost in_range = { guard_in_range };
+
+    ghost known = { guard_known };
+
+    fn read(text: &[u8]) -> Option<(Guard, &[u8])> {
+        read_guard(text)
+    }
+
+    fn unused() -> Guard {
+        NO_GUARD
+    }
+
+    #[tactic(auto, unfolding(pattern::specs::Sound::guard_in_range))]
+    fn is_in_range(self) -> bool {
+        self.bound <= 1_000
+    }
+
+    #[tactic(auto, unfolding(pattern::specs::Sound::guard_known))]
+    fn is_known(self, count: u8) -> bool {
+        self.clock < count
+    }
+
+    ghost shorter = { guard_shorter };
 }
 
 // As many tests as stand there.
-pub fn tests_at(text: &[u8], at: usize, channels: u8) -> TestsRead
-    requires { at ≤ length text.now }
-    ensures { result ≡ tests_at channels text.now at }
+pub fn read_tests(text: &[u8], channels: u8) -> (Parts<Test, 4>, &[u8])
+    ensures { got result.0 result.1.now ≡ giving (λ xs. gathered_tests channels (map test_of xs)) ((many test).read text.now) }
 {
-    let tests = no_tests();
-    let mut s = TestsRead {
-        tests,
-        next: at,
-        more: true,
-    };
-    while s.more {
-        s = test_turn(text, s, channels);
-    }
-    s
-}
-
-// The guards of an edge as read so far, as the tests of a place are.
-#[derive(Clone, Copy)]
-pub struct Guards {
-    pub guards: [Guard; 4],
-    pub count: u8,
-    pub inrange: bool,
-    pub known: bool,
-}
-
-#[derive(Clone, Copy)]
-pub struct GuardsRead {
-    pub guards: Guards,
-    pub next: usize,
-    pub more: bool,
-}
-
-// A bound of at most 1,000.
-fn guard_in_range(g: Guard) -> bool
-    ensures { result ≡ guard_in_range g }
-{
-    g.bound <= 1_000
-}
-
-pub fn no_guards() -> Guards
-    ensures { result ≡ no_guards }
-{
-    let g = Guard {
-        sign: Sign::Less,
-        clock: 0,
-        bound: 0,
-    };
-    Guards {
-        guards: [g; 4],
-        count: 0,
-        inrange: true,
-        known: true,
-    }
-}
-
-// One guard more.
-fn add_guard(s: Guards, g: Guard, clocks: u8) -> Guards
-    ensures { result ≡ add_guard clocks s g }
-{
-    let c = g.clock;
-    let inrange = line_parts::both(s.inrange, guard_in_range(g));
-    let known = line_parts::both(s.known, line_parts::less(c, clocks));
-    let count = s.count;
-    let n = count as usize;
-    let mut r = s;
-    r.inrange = inrange;
-    r.known = known;
-    if n < 4 {
-        r.guards[n] = g;
-        r.count = count + 1;
-        return r;
-    }
-    r.count = 5;
-    r
-}
-
-// The guard that stands there, if there is one.
-fn guard_turn(text: &[u8], s: GuardsRead, clocks: u8) -> GuardsRead
-    requires { s.next ≤ length text.now }
-    ensures { result ≡ guard_turn clocks text.now s }
-{
-    let at = s.next;
-    let guards = s.guards;
-    match line_parts::guard_at(text, at) {
-        GuardRead::Broken => GuardsRead {
-            guards,
-            next: at,
-            more: false,
-        },
-        GuardRead::Value(g, next) => {
-            let guards = add_guard(guards, g, clocks);
-            GuardsRead {
-                guards,
-                next,
-                more: true,
-            }
-        }
-    }
+    read_parts(text, channels)
 }
 
 // As many guards as stand there.
-pub fn guards_at(text: &[u8], at: usize, clocks: u8) -> GuardsRead
-    requires { at ≤ length text.now }
-    ensures { result ≡ guards_at clocks text.now at }
+pub fn read_guards(text: &[u8], clocks: u8) -> (Parts<Guard, 4>, &[u8])
+    ensures { got result.0 result.1.now ≡ giving (gathered_guards clocks) ((many guard).read text.now) }
 {
-    let guards = no_guards();
-    let mut s = GuardsRead {
-        guards,
-        next: at,
-        more: true,
-    };
-    while s.more {
-        s = guard_turn(text, s, clocks);
-    }
-    s
+    read_parts(text, clocks)
 }
 
 // The clocks of a reset bracket as read so far: a flag for each clock, the least that may come next, and whether each
@@ -228,140 +180,59 @@ pub struct Resets {
     pub known: bool,
 }
 
-#[derive(Clone, Copy)]
-pub struct ResetsRead {
-    pub resets: Resets,
-    pub next: usize,
-    pub more: bool,
-}
-
-#[derive(Clone, Copy)]
-pub struct Bracket {
-    pub found: bool,
-    pub resets: Resets,
-    pub next: usize,
-}
-
-pub fn no_resets() -> Resets
-    ensures { result ≡ no_resets }
-{
-    Resets {
-        flags: [false; 4],
-        least: 0,
-        known: true,
-    }
-}
-
-// One clock more.
-fn add_reset(s: Resets, clock: u32, clocks: u8) -> Resets
-    requires { clock ≤ cap }
-    ensures { result ≡ add_reset clocks s clock }
-{
-    let limit = clocks as u32;
-    let rises = line_parts::at_most(s.least, clock);
-    let there = line_parts::below(clock, limit);
-    let known = line_parts::both(s.known, line_parts::both(rises, there));
-    let n = clock as usize;
-    let mut r = s;
-    r.least = clock + 1;
-    r.known = known;
-    if n < 4 {
-        r.flags[n] = true;
-        return r;
-    }
-    r
-}
-
-// The further clock that stands there, if there is one.
-fn reset_turn(text: &[u8], s: ResetsRead, clocks: u8) -> ResetsRead
-    requires { s.next ≤ length text.now }
-    ensures { result ≡ reset_turn clocks text.now s }
-{
-    let at = s.next;
-    let resets = s.resets;
-    match line_parts::spaced_at(text, at) {
-        Number::Broken => ResetsRead {
-            resets,
-            next: at,
-            more: false,
-        },
-        Number::Value(clock, next) => {
-            let resets = add_reset(resets, clock, clocks);
-            ResetsRead {
-                resets,
-                next,
-                more: true,
-            }
+impl Resets {
+    fn none() -> Resets
+        ensures { result ≡ no_resets }
+    {
+        Resets {
+            flags: [false; 4],
+            least: 0,
+            known: true,
         }
+    }
+
+    // One clock more.
+    fn with(mut self, clock: u32, clocks: u8) -> Resets
+        requires { clock ≤ cap }
+        ensures { result ≡ add_reset clocks self clock }
+    {
+        self.known = self.known & ((self.least <= clock) & (clock < u32::from(clocks)));
+        self.least = clock + 1;
+        let n = clock as usize;
+        if n < 4 {
+            self.flags[n] = true;
+        }
+        self
     }
 }
 
 // As many further clocks as stand there.
-fn further_at(text: &[u8], at: usize, resets: Resets, clocks: u8) -> ResetsRead
-    requires { at ≤ length text.now }
-    ensures { result ≡ further_at clocks text.now resets at }
+fn read_further(text: &[u8], resets: Resets, clocks: u8) -> (Resets, &[u8])
+    ensures { got result.0 result.1.now ≡ giving (added clocks resets) ((many (" " ▸ number)).read text.now) }
 {
-    let mut s = ResetsRead {
-        resets,
-        next: at,
-        more: true,
-    };
-    while s.more {
-        s = reset_turn(text, s, clocks);
+    let mut all = resets;
+    let mut rest = text;
+    while let Some((clock, next)) = read_spaced(rest) {
+        all = all.with(clock, clocks);
+        rest = next;
     }
-    s
+    (all, rest)
 }
 
 // A bracket of resets: at least one clock.
-fn bracket_at(text: &[u8], at: usize, clocks: u8) -> Bracket
-    requires { at ≤ length text.now }
-    ensures { result ≡ bracket_at clocks text.now at }
+fn read_bracket(text: &[u8], clocks: u8) -> Option<(Resets, &[u8])>
+    ensures { read_of result ≡ giving (λ c. added clocks no_resets (c.0 ∷ c.1)) (bracket.read text.now) }
 {
-    let none = no_resets();
-    let absent = Bracket {
-        found: false,
-        resets: none,
-        next: 0,
-    };
-    let Found::At(start) = text_scan::word_at(text, at, b" (reset ") else {
-        return absent;
-    };
-    let Number::Value(clock, middle) = text_scan::number_at(text, start) else {
-        return absent;
-    };
-    let first = add_reset(none, clock, clocks);
-    let further = further_at(text, middle, first, clocks);
-    let end = further.next;
-    let Found::At(next) = text_scan::word_at(text, end, b")") else {
-        return absent;
-    };
-    let resets = further.resets;
-    Bracket {
-        found: true,
-        resets,
-        next,
-    }
+    let rest = read_word(text, b" (reset ")?;
+    let (clock, rest) = read_number(rest)?;
+    let (resets, rest) = read_further(rest, Resets::none().with(clock, clocks), clocks);
+    let rest = read_word(rest, b")")?;
+    Some((resets, rest))
 }
 
 // Resets, or no bracket at all.
-pub fn resets_at(text: &[u8], at: usize, clocks: u8) -> ResetsRead
-    requires { at ≤ length text.now }
-    ensures { result ≡ resets_at clocks text.now at }
+pub fn read_resets(text: &[u8], clocks: u8) -> (Resets, &[u8])
+    ensures { got result.0 result.1.now ≡ giving (added clocks no_resets) (resets.read text.now) }
 {
-    let b = bracket_at(text, at, clocks);
-    let resets = b.resets;
-    let end = b.next;
-    if b.found {
-        return ResetsRead {
-            resets,
-            next: end,
-            more: false,
-        };
-    }
-    let resets = no_resets();
-    ResetsRead {
-        resets,
-        next: at,
-        more: false,
-    }
+    read_bracket(text, clocks).unwrap_or((Resets::none(), text))
 }

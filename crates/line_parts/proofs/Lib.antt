@@ -1,4 +1,3 @@
--- Laws: the parts of a line at a position.
-pub mod Words
-pub mod Taken
-pub mod TestLaws
+-- Laws: the parts of a line at the front of a text.
+pub mod FirstOf
+pub mod Either

@@ -1,2 +1,2 @@
--- Definitions: the parts of a line at a position.
+-- Definitions: the parts of a line, held.
 pub mod Parts

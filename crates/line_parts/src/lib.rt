@@ -1,125 +1,72 @@
-// The parts of a line of a pattern text at a position: signs, kinds, weighings, tests, guards.
+// The parts of a line of a pattern text at the front of a text: signs, kinds, weighings, tests, guards.
 #![tactic(auto)]
 
-ghost use Rattle.std.specs.Prelude.{◌≡◌, ◌&&◌, ◌≤◌, min, leb, ltb, length};
-ghost use Rattle.line_parts.specs.Parts.{sign_at, kind_at, weighing_at, side_at, band_at, test_at, guard_at, spaced_at};
+ghost use Rattle.std.specs.Prelude.{◌≡◌};
+ghost use Rattle.pattern_text.specs.Form.{giving, ◌▸◌, first_of, number};
+ghost use Rattle.pattern_text.specs.Line.{
+  sign,
+  kind,
+  weighing,
+  side_of,
+  inside_of,
+  test_of,
+  side_test,
+  band_test,
+  test,
+  guard,
+};
+ghost use Rattle.text_scan.specs.Scan.{read_of, held_number};
+ghost use Rattle.line_parts.specs.Parts.{held_raw, held_guard};
 
 use pattern::{Guard, Kind, Sign, Test};
-use text_scan::{Found, Integer, Number};
+use pattern_text::Word;
+use text_scan::{read_integer, read_number, read_word};
 use weighting::Weighing;
 
-// What was read, and where it ends.
-#[derive(Clone, Copy)]
-pub enum SignRead {
-    Broken,
-    Value(Sign, usize),
-}
-
-#[derive(Clone, Copy)]
-pub enum KindRead {
-    Broken,
-    Value(Kind, usize),
-}
-
-#[derive(Clone, Copy)]
-pub enum WeighingRead {
-    Broken,
-    Value(Weighing, usize),
-}
-
-#[derive(Clone, Copy)]
-pub enum TestRead {
-    Broken,
-    Value(Test, usize),
-}
-
-#[derive(Clone, Copy)]
-pub enum GuardRead {
-    Broken,
-    Value(Guard, usize),
-}
-
-pub fn sign_at(text: &[u8], at: usize) -> SignRead
-    requires { at ≤ length text.now }
-    ensures { result ≡ sign_at text.now at }
+// The first of some values whose word stands there.
+fn read_first<'a, T: Word>(text: &'a [u8], values: &[T]) -> Option<(T, &'a [u8])>
+    ensures { read_of result ≡ first_of T.spelled values.now text.now }
 {
-    if let Found::At(next) = text_scan::word_at(text, at, b" (< ") {
-        return SignRead::Value(Sign::Less, next);
+    for value in values {
+        if let Some(rest) = read_word(text, value.word()) {
+            return Some((*value, rest));
+        }
     }
-    if let Found::At(next) = text_scan::word_at(text, at, b" (<= ") {
-        return SignRead::Value(Sign::AtMost, next);
-    }
-    if let Found::At(next) = text_scan::word_at(text, at, b" (> ") {
-        return SignRead::Value(Sign::More, next);
-    }
-    if let Found::At(next) = text_scan::word_at(text, at, b" (>= ") {
-        return SignRead::Value(Sign::AtLeast, next);
-    }
-    SignRead::Broken
+    None
 }
 
-pub fn kind_at(text: &[u8], at: usize) -> KindRead
-    requires { at ≤ length text.now }
-    ensures { result ≡ kind_at text.now at }
+#[tactic(auto, unfolding(pattern_text::specs::Line::sign, pattern_text::specs::Form::one_of))]
+pub fn read_sign(text: &[u8]) -> Option<(Sign, &[u8])>
+    ensures { read_of result ≡ sign.read text.now }
 {
-    if let Found::At(next) = text_scan::word_at(text, at, b"start") {
-        return KindRead::Value(Kind::Start, next);
-    }
-    if let Found::At(next) = text_scan::word_at(text, at, b"plain") {
-        return KindRead::Value(Kind::Plain, next);
-    }
-    if let Found::At(next) = text_scan::word_at(text, at, b"end") {
-        return KindRead::Value(Kind::End, next);
-    }
-    if let Found::At(next) = text_scan::word_at(text, at, b"both") {
-        return KindRead::Value(Kind::Both, next);
-    }
-    KindRead::Broken
+    read_first(text, &[Sign::Less, Sign::AtMost, Sign::More, Sign::AtLeast])
 }
 
-pub fn weighing_at(text: &[u8], at: usize) -> WeighingRead
-    requires { at ≤ length text.now }
-    ensures { result ≡ weighing_at text.now at }
+#[tactic(auto, unfolding(pattern_text::specs::Line::kind, pattern_text::specs::Form::one_of))]
+pub fn read_kind(text: &[u8]) -> Option<(Kind, &[u8])>
+    ensures { read_of result ≡ kind.read text.now }
 {
-    if let Found::At(next) = text_scan::word_at(text, at, b"margin ") {
-        return WeighingRead::Value(Weighing::Margin, next);
-    }
-    if let Found::At(next) = text_scan::word_at(text, at, b"sum ") {
-        return WeighingRead::Value(Weighing::Sum, next);
-    }
-    WeighingRead::Broken
+    read_first(text, &[Kind::Start, Kind::Plain, Kind::End, Kind::Both])
 }
 
-// An index, held at 255: no pattern has so many of anything.
-pub fn index(value: u32) -> u8
-    ensures { result ≡ min 255 value }
+#[tactic(auto, unfolding(pattern_text::specs::Line::weighing, pattern_text::specs::Form::one_of))]
+pub fn read_weighing(text: &[u8]) -> Option<(Weighing, &[u8])>
+    ensures { read_of result ≡ weighing.read text.now }
 {
-    if value < 255 { value as u8 } else { 255 }
-}
-
-// A guard's bound, held at 65,535.
-pub fn bound(value: u32) -> u16
-    ensures { result ≡ min 65_535 value }
-{
-    if value < 65_535 { value as u16 } else { 65_535 }
+    read_first(text, &[Weighing::Margin, Weighing::Sum])
 }
 
 // A test by its sign: a sign, a channel, a bound.
-fn side_at(text: &[u8], at: usize) -> TestRead
-    requires { at ≤ length text.now }
-    ensures { result ≡ side_at text.now at }
+fn read_side(text: &[u8]) -> Option<(Test, &[u8])>
+    ensures { read_of result ≡ giving (λ x. held_raw (side_of x)) (side_test.read text.now) }
 {
-    let SignRead::Value(sign, start) = sign_at(text, at) else {
-        return TestRead::Broken;
-    };
-    let Number::Value(channel, middle) = text_scan::number_then(text, start, b" ") else {
-        return TestRead::Broken;
-    };
-    let Integer::Value(bound, next) = text_scan::integer_then(text, middle, b")") else {
-        return TestRead::Broken;
-    };
-    let channel = index(channel);
-    TestRead::Value(
+    let (sign, rest) = read_sign(text)?;
+    let (channel, rest) = read_number(rest)?;
+    let rest = read_word(rest, b" ")?;
+    let (bound, rest) = read_integer(rest)?;
+    let rest = read_word(rest, b")")?;
+    let channel = channel.min(255) as u8;
+    Some((
         Test {
             sign,
             channel,
@@ -127,29 +74,23 @@ fn side_at(text: &[u8], at: usize) -> TestRead
             bound,
             high: 0,
         },
-        next,
-    )
+        rest,
+    ))
 }
 
 // A band: a channel, a low, a high.
-fn band_at(text: &[u8], at: usize) -> TestRead
-    requires { at ≤ length text.now }
-    ensures { result ≡ band_at text.now at }
+fn read_band(text: &[u8]) -> Option<(Test, &[u8])>
+    ensures { read_of result ≡ giving (λ x. held_raw (inside_of x)) (band_test.read text.now) }
 {
-    let Found::At(start) = text_scan::word_at(text, at, b" (in ") else {
-        return TestRead::Broken;
-    };
-    let Number::Value(channel, middle) = text_scan::number_then(text, start, b" ") else {
-        return TestRead::Broken;
-    };
-    let Integer::Value(low, rest) = text_scan::integer_then(text, middle, b" ") else {
-        return TestRead::Broken;
-    };
-    let Integer::Value(high, next) = text_scan::integer_then(text, rest, b")") else {
-        return TestRead::Broken;
-    };
-    let channel = index(channel);
-    TestRead::Value(
+    let rest = read_word(text, b" (in ")?;
+    let (channel, rest) = read_number(rest)?;
+    let rest = read_word(rest, b" ")?;
+    let (low, rest) = read_integer(rest)?;
+    let rest = read_word(rest, b" ")?;
+    let (high, rest) = read_integer(rest)?;
+    let rest = read_word(rest, b")")?;
+    let channel = channel.min(255) as u8;
+    Some((
         Test {
             sign: Sign::Less,
             channel,
@@ -157,72 +98,37 @@ fn band_at(text: &[u8], at: usize) -> TestRead
             bound: low,
             high,
         },
-        next,
-    )
+        rest,
+    ))
 }
 
 // A test of either kind.
-pub fn test_at(text: &[u8], at: usize) -> TestRead
-    requires { at ≤ length text.now }
-    ensures { result ≡ test_at text.now at }
+pub fn read_test(text: &[u8]) -> Option<(Test, &[u8])>
+    ensures { read_of result ≡ giving held_raw (test.read text.now) }
 {
-    match side_at(text, at) {
-        TestRead::Value(t, next) => TestRead::Value(t, next),
-        TestRead::Broken => band_at(text, at),
+    if let Some(found) = read_side(text) {
+        return Some(found);
     }
+    read_band(text)
 }
 
 // A guard: a sign, a clock, a bound.
-pub fn guard_at(text: &[u8], at: usize) -> GuardRead
-    requires { at ≤ length text.now }
-    ensures { result ≡ guard_at text.now at }
+pub fn read_guard(text: &[u8]) -> Option<(Guard, &[u8])>
+    ensures { read_of result ≡ giving held_guard (guard.read text.now) }
 {
-    let SignRead::Value(sign, start) = sign_at(text, at) else {
-        return GuardRead::Broken;
-    };
-    let Number::Value(clock, middle) = text_scan::number_then(text, start, b" ") else {
-        return GuardRead::Broken;
-    };
-    let Number::Value(most, next) = text_scan::number_then(text, middle, b")") else {
-        return GuardRead::Broken;
-    };
-    let clock = index(clock);
-    let bound = bound(most);
-    GuardRead::Value(Guard { sign, clock, bound }, next)
+    let (sign, rest) = read_sign(text)?;
+    let (clock, rest) = read_number(rest)?;
+    let rest = read_word(rest, b" ")?;
+    let (bound, rest) = read_number(rest)?;
+    let rest = read_word(rest, b")")?;
+    let clock = clock.min(255) as u8;
+    let bound = bound.min(65_535) as u16;
+    Some((Guard { sign, clock, bound }, rest))
 }
 
 // A space and a number, as a bracket's further clocks stand.
-pub fn spaced_at(text: &[u8], at: usize) -> Number
-    requires { at ≤ length text.now }
-    ensures { result ≡ spaced_at text.now at }
+pub fn read_spaced(text: &[u8]) -> Option<(u32, &[u8])>
+    ensures { read_of result ≡ giving held_number ((" " ▸ number).read text.now) }
 {
-    let Found::At(start) = text_scan::word_at(text, at, b" ") else {
-        return Number::Broken;
-    };
-    text_scan::number_at(text, start)
-}
-
-// Tests, as values.
-pub fn both(a: bool, b: bool) -> bool
-    ensures { result ≡ a && b }
-{
-    if a { b } else { false }
-}
-
-pub fn less(a: u8, b: u8) -> bool
-    ensures { result ≡ ltb a b }
-{
-    a < b
-}
-
-pub fn below(a: u32, b: u32) -> bool
-    ensures { result ≡ ltb a b }
-{
-    a < b
-}
-
-pub fn at_most(a: u32, b: u32) -> bool
-    ensures { result ≡ leb a b }
-{
-    a <= b
+    read_number(read_word(text, b" ")?)
 }

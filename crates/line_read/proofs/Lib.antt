@@ -1,2 +1,1 @@
--- Laws: the lines at a position.
-pub mod LineReads
+-- Laws: the lines of a pattern text.

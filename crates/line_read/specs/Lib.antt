@@ -1,2 +1,2 @@
--- Definitions: the lines at a position.
+-- Definitions: the lines of a pattern text, held.
 pub mod Lines

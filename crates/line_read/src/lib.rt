@@ -1,13 +1,16 @@
-// The three kinds of line of a pattern text at a position, each with its line feed.
+// The three kinds of line of a pattern text at the front of a text, each with its line feed.
 #![tactic(auto)]
 
-ghost use Rattle.std.specs.Prelude.{◌≡◌, ◌≤◌, length};
-ghost use Rattle.line_read.specs.Lines.{header_at, place_at, edge_at};
+ghost use Rattle.std.specs.Prelude.{◌≡◌};
+ghost use Rattle.pattern_text.specs.Form.{giving, ◌◂◌};
+ghost use Rattle.pattern_text.specs.Line.{header_line, place_line, edge_line};
+ghost use Rattle.text_scan.specs.Scan.{read_of};
+ghost use Rattle.line_read.specs.Lines.{held_header, held_place, held_edge};
 
-use line_lists::{Guards, Resets, Tests};
-use line_parts::{KindRead, WeighingRead};
-use pattern::Kind;
-use text_scan::{Found, Number};
+use line_lists::{Parts, Resets, read_guards, read_resets, read_tests};
+use line_parts::{read_kind, read_weighing};
+use pattern::{Guard, Kind, Test};
+use text_scan::{read_number, read_word};
 use weighting::Weighing;
 
 // A header's numbers, held.
@@ -20,39 +23,38 @@ pub struct Header {
     pub high: u32,
 }
 
+// A place's line.
 #[derive(Clone, Copy)]
-pub enum HeaderRead {
-    Broken,
-    Value(Header, usize),
+pub struct PlaceLine {
+    pub kind: Kind,
+    pub tests: Parts<Test, 4>,
+}
+
+// An edge's line; its ends are held.
+#[derive(Clone, Copy)]
+pub struct EdgeLine {
+    pub from: u32,
+    pub to: u32,
+    pub guards: Parts<Guard, 4>,
+    pub resets: Resets,
 }
 
 // Line 1, with its line feed.
-pub fn header_at(text: &[u8], at: usize) -> HeaderRead
-    requires { at ≤ length text.now }
-    ensures { result ≡ header_at text.now at }
+pub fn read_header(text: &[u8]) -> Option<(Header, &[u8])>
+    ensures { read_of result ≡ giving held_header ((header_line ◂ "\n").read text.now) }
 {
-    let Found::At(first) = text_scan::word_at(text, at, b"(pattern ") else {
-        return HeaderRead::Broken;
-    };
-    let WeighingRead::Value(weighing, second) = line_parts::weighing_at(text, first) else {
-        return HeaderRead::Broken;
-    };
-    let Number::Value(channels, third) = text_scan::number_then(text, second, b" ") else {
-        return HeaderRead::Broken;
-    };
-    let Number::Value(clocks, fourth) = text_scan::number_then(text, third, b" ") else {
-        return HeaderRead::Broken;
-    };
-    let Number::Value(low, fifth) = text_scan::number_then(text, fourth, b" ") else {
-        return HeaderRead::Broken;
-    };
-    let Number::Value(high, end) = text_scan::number_then(text, fifth, b")") else {
-        return HeaderRead::Broken;
-    };
-    let Found::At(next) = text_scan::word_at(text, end, b"\n") else {
-        return HeaderRead::Broken;
-    };
-    HeaderRead::Value(
+    let rest = read_word(text, b"(pattern ")?;
+    let (weighing, rest) = read_weighing(rest)?;
+    let (channels, rest) = read_number(rest)?;
+    let rest = read_word(rest, b" ")?;
+    let (clocks, rest) = read_number(rest)?;
+    let rest = read_word(rest, b" ")?;
+    let (low, rest) = read_number(rest)?;
+    let rest = read_word(rest, b" ")?;
+    let (high, rest) = read_number(rest)?;
+    let rest = read_word(rest, b")")?;
+    let rest = read_word(rest, b"\n")?;
+    Some((
         Header {
             weighing,
             channels,
@@ -60,107 +62,41 @@ pub fn header_at(text: &[u8], at: usize) -> HeaderRead
             low,
             high,
         },
-        next,
-    )
-}
-
-// A place's line, if `found`.
-#[derive(Clone, Copy)]
-pub struct PlaceRead {
-    pub found: bool,
-    pub kind: Kind,
-    pub tests: Tests,
-    pub next: usize,
+        rest,
+    ))
 }
 
 // A place's line, with its line feed.
-pub fn place_at(text: &[u8], at: usize, channels: u8) -> PlaceRead
-    requires { at ≤ length text.now }
-    ensures { result ≡ place_at channels text.now at }
+pub fn read_place(text: &[u8], channels: u8) -> Option<(PlaceLine, &[u8])>
+    ensures { read_of result ≡ giving (held_place channels) ((place_line ◂ "\n").read text.now) }
 {
-    let none = line_lists::no_tests();
-    let absent = PlaceRead {
-        found: false,
-        kind: Kind::Plain,
-        tests: none,
-        next: 0,
-    };
-    let Found::At(start) = text_scan::word_at(text, at, b"(place ") else {
-        return absent;
-    };
-    let KindRead::Value(kind, middle) = line_parts::kind_at(text, start) else {
-        return absent;
-    };
-    let list = line_lists::tests_at(text, middle, channels);
-    let end = list.next;
-    let Found::At(close) = text_scan::word_at(text, end, b")") else {
-        return absent;
-    };
-    let Found::At(next) = text_scan::word_at(text, close, b"\n") else {
-        return absent;
-    };
-    let tests = list.tests;
-    PlaceRead {
-        found: true,
-        kind,
-        tests,
-        next,
-    }
-}
-
-// An edge's line, if `found`; its ends are held.
-#[derive(Clone, Copy)]
-pub struct EdgeRead {
-    pub found: bool,
-    pub from: u32,
-    pub to: u32,
-    pub guards: Guards,
-    pub resets: Resets,
-    pub next: usize,
+    let rest = read_word(text, b"(place ")?;
+    let (kind, rest) = read_kind(rest)?;
+    let (tests, rest) = read_tests(rest, channels);
+    let rest = read_word(rest, b")")?;
+    let rest = read_word(rest, b"\n")?;
+    Some((PlaceLine { kind, tests }, rest))
 }
 
 // An edge's line, with its line feed.
-pub fn edge_at(text: &[u8], at: usize, clocks: u8) -> EdgeRead
-    requires { at ≤ length text.now }
-    ensures { result ≡ edge_at clocks text.now at }
+pub fn read_edge(text: &[u8], clocks: u8) -> Option<(EdgeLine, &[u8])>
+    ensures { read_of result ≡ giving (held_edge clocks) ((edge_line ◂ "\n").read text.now) }
 {
-    let guards = line_lists::no_guards();
-    let resets = line_lists::no_resets();
-    let absent = EdgeRead {
-        found: false,
-        from: 0,
-        to: 0,
-        guards,
-        resets,
-        next: 0,
-    };
-    let Found::At(first) = text_scan::word_at(text, at, b"(edge ") else {
-        return absent;
-    };
-    let Number::Value(from, second) = text_scan::number_then(text, first, b" ") else {
-        return absent;
-    };
-    let Number::Value(to, third) = text_scan::number_at(text, second) else {
-        return absent;
-    };
-    let list = line_lists::guards_at(text, third, clocks);
-    let fourth = list.next;
-    let bracket = line_lists::resets_at(text, fourth, clocks);
-    let end = bracket.next;
-    let Found::At(close) = text_scan::word_at(text, end, b")") else {
-        return absent;
-    };
-    let Found::At(next) = text_scan::word_at(text, close, b"\n") else {
-        return absent;
-    };
-    let guards = list.guards;
-    let resets = bracket.resets;
-    EdgeRead {
-        found: true,
-        from,
-        to,
-        guards,
-        resets,
-        next,
-    }
+    let rest = read_word(text, b"(edge ")?;
+    let (from, rest) = read_number(rest)?;
+    let rest = read_word(rest, b" ")?;
+    let (to, rest) = read_number(rest)?;
+    let (guards, rest) = read_guards(rest, clocks);
+    let (resets, rest) = read_resets(rest, clocks);
+    let rest = read_word(rest, b")")?;
+    let rest = read_word(rest, b"\n")?;
+    Some((
+        EdgeLine {
+            from,
+            to,
+            guards,
+            resets,
+        },
+        rest,
+    ))
 }

@@ -10,7 +10,7 @@ use Rattle.pattern_text.specs.Text.{place_line_of, edge_line_of, doc_of, raws_of
 use Rattle.pattern_text.proofs.Runs.{write-append}
 use Rattle.line_write.specs.Lines.{header_text, place_text, edge_text}
 
-many-map : {A B : Type 0} (w : B → Bytes) (g : A → B) (xs : List A) → write_many w (map g xs) ≡ write_many (λ x. w (g x)) xs
+pub many-map : {A B : Type 0} (w : B → Bytes) (g : A → B) (xs : List A) → write_many w (map g xs) ≡ write_many (λ x. w (g x)) xs
 unfolding write_many
 many-map w g [] = refl
 many-map w g (x ∷ xs) = ap (◌++◌ (w (g x))) (many-map w g xs)

@@ -1,4 +1,4 @@
--- What an accepted call may go by: each check's outcome, from an answer that is `Done`.
+-- What an accepted call may go by: each check's outcome, from an answer that is `Ok`.
 use Prim.Native.Nat.{ℕ, ◌+◌, ◌≤◌}
 use native.Mathlib.Omega.{arith}
 use mathlib.Core.Path.{◌≡◌, refl, sym}
@@ -9,6 +9,7 @@ use borrow.Author.Tests.{leb-true, ltb-false, eqb-true, not-false, le-ltb}
 use lib.Dec.{eqb, leb, ltb}
 use lib.ListN.{length, take}
 use lib.IntN.{ℤ}
+use Rattle.std.specs.Prelude.{Ok, Err}
 use Rattle.pattern.specs.declared.Pattern.{Pattern}
 use Rattle.pattern.specs.declared.Refusal.{Refusal}
 use Rattle.pattern.specs.declared.Refusal.TheVariants.{UnsoundPattern, BrokenState, TableTooShort, BrokenRecord, TooManyTicks, BrokenCell, OutputTooShort}
@@ -19,7 +20,6 @@ use Rattle.pattern.specs.Distance.{Sample}
 use Rattle.pattern.proofs.SoundLaws.{both}
 use Rattle.record.specs.Record.{value_in_range}
 use Rattle.monitor.specs.declared.State.{State}
-use Rattle.monitor.specs.declared.Answer.TheVariants.{Done, Refused}
 use Rattle.monitor.specs.State.{state_sound}
 use Rattle.monitor.specs.Open.{answer_of, first_cause, table_too_short, open_refusal}
 use Rattle.monitor.specs.Feed.{cell_fine, piece_broken, too_many_ticks, cells_broken, reports_too_short, feed_cause}
@@ -39,13 +39,18 @@ neither false y e = (refl, e)
 
 -- ---- an answer says whether there was a cause
 
-pub done : (o : Option Refusal) → Done ≡ answer_of o → o ≡ none
-done none e = refl
-done (some r) e = let z : ◌≡◌ {A = ℕ} 0 1 = cc in absurd (omega arith)
+pub done : {A : Type 0} (a : A) {x : A} (o : Option Refusal) → Ok x ≡ answer_of a o → o ≡ none
+done a none e = refl
+done a (some r) e = cc
 
-pub refused_for_lem : (o : Option Refusal) (r : Refusal) → Refused r ≡ answer_of o → o ≡ some r
-refused_for_lem none r e = let z : ◌≡◌ {A = ℕ} 0 1 = cc in absurd (omega arith)
-refused_for_lem (some q) r e = cc
+-- and hands back what is due
+pub handed : {A : Type 0} (a : A) {x : A} (o : Option Refusal) → Ok x ≡ answer_of a o → x ≡ a
+handed a none e = cc
+handed a (some r) e = cc
+
+pub refused_for_lem : {A : Type 0} (a : A) (o : Option Refusal) (r : Refusal) → Err r ≡ answer_of a o → o ≡ some r
+refused_for_lem a none r e = cc
+refused_for_lem a (some q) r e = cc
 
 -- ---- both tables are long enough
 

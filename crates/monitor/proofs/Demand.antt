@@ -86,7 +86,7 @@ module _ (p : Pattern) (b : Book) (s : State) (t u : List ℤ) (h : Between p b 
     accepted : Accepted p b s t u c
     accepted =
         record {
-          answer = ap answer_of feed_given;
+          answer = ap (answer_of (tt {0})) feed_given;
           reports = λ i l. same_said (length b + i + 1) _ _ _ _ _ _ book-is (score-at i l) (length-at i l)
               (report-right p h.sound (next p b s t u h c none_given) (length b + i + 1) (let e = next-length p b s t u h c none_given in omega arith));
           scores_long = scores_are_long p s t u c feed_given (piece p b s t u h c none_given).scores;
@@ -132,7 +132,7 @@ all_right p (c ∷ cs) b s t u h =
 all_possible : (p : Pattern) (calls : List Call) (b : Book) (s : State) (t u : List ℤ) → Between p b s t u → AllPossible p s t u calls
 all_possible p [] b s t u h = tt
 all_possible p (c ∷ cs) b s t u h = (
-  subst (λ (o : Option Refusal). PossibleNumber (answer_number (answer_of o))) (sym (refusal_is p b s t u h c)) (possible_number p b c),
+  subst (λ (o : Option Refusal). PossibleNumber (answer_number (answer_of (tt {0}) o))) (sym (refusal_is p b s t u h c)) (possible_number p b c),
   all_possible p cs (book_after p b c) (feed_state p s t u c) (feed_first p s t u c) (feed_second p s t u c) (after p b s t u h c),
 )
 

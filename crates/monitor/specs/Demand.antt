@@ -2,7 +2,7 @@
 -- call". Proved in proofs/Demand.antt. For every list of feeds after an accepted opening, refused feeds included and pieces
 -- cut anywhere, at every tick of every accepted feed, score and length are together those of some run in the window that
 -- ends there; none is better, none as good is shorter; and they are 0 and 0 exactly if there is none.
-use Rattle.std.specs.Prelude.{ℕ, ◌+◌, ◌≤◌, ◌<◌, ◌≡◌, ◌⊎◌, List, [], ◌∷◌, ◌++◌, T, length, drop, get_or, replicate, ℤ, pos}
+use Rattle.std.specs.Prelude.{ℕ, ◌+◌, ◌≤◌, ◌<◌, ◌≡◌, ◌⊎◌, List, [], ◌∷◌, ◌++◌, T, length, drop, get_or, replicate, ℤ, pos, Ok, Err}
 use Rattle.std.proofs.Math.Option.{Option, none, some}
 use Rattle.weighting.proofs.Weightings.{weighting_of}
 use Rattle.pattern.specs.declared.Pattern.{Pattern}
@@ -11,7 +11,6 @@ use Rattle.pattern.specs.declared.Refusal.TheVariants.{BrokenRecord, TooManyTick
 use Rattle.record.specs.Record.{Book}
 use Rattle.book.specs.PricedRun.{PricedRun}
 use Rattle.monitor.specs.declared.State.{State}
-use Rattle.monitor.specs.declared.Answer.TheVariants.{Done, Refused}
 use Rattle.monitor.specs.Open.{answer_number, unless_refused, first_cause, open_refusal, open_state, open_first, open_second}
 use Rattle.monitor.specs.Feed.{Call, piece_broken, too_many_ticks, reports_too_short, feed_answer, feed_state, feed_first, feed_second, feed_scores, feed_lengths}
 
@@ -67,7 +66,7 @@ module _ (p : Pattern) where
   -- An accepted call: "Report place i, from 0 and below the duration, of an accepted feed that found n ticks in the book
   -- speaks of end n + i + 1"; later places are as they were.
   pub record Accepted (b : Book) (s : State) (t u : List ℤ) (c : Call) : Type 0 where
-    pub answer : feed_answer p s t u c ≡ Done
+    pub answer : feed_answer p s t u c ≡ Ok (tt {0})
     pub reports : (i : ℕ) → i < c.duration
         → BestRun p (book_after p b c) (length b + i + 1) (get_or (feed_scores p s t u c) i (pos 0)) (get_or (feed_lengths p s t u c) i 0)
         ⊎ NoRun p (book_after p b c) (length b + i + 1) (get_or (feed_scores p s t u c) i (pos 0)) (get_or (feed_lengths p s t u c) i 0)
@@ -78,7 +77,7 @@ module _ (p : Pattern) where
 
   -- A refused call: "A refused feed writes no report place", and the state and both tables are as they were too.
   pub record Rejected (r : Refusal) (s : State) (t u : List ℤ) (c : Call) : Type 0 where
-    pub answer : feed_answer p s t u c ≡ Refused r
+    pub answer : feed_answer p s t u c ≡ Err r
     pub state : feed_state p s t u c ≡ s
     pub first : feed_first p s t u c ≡ t
     pub second : feed_second p s t u c ≡ u

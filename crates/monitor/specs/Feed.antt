@@ -1,6 +1,6 @@
 -- Feeding a piece (document 01, 'Feed a piece'): what it answers, and what the state, both tables and both report slices
 -- are afterwards, for every content of what is lent.
-use Rattle.std.specs.Prelude.{ℕ, zero, suc, ◌+◌, ◌≡◌, List, [], ◌∷◌, ◌++◌, map, Bool, not, cond, ◌&&◌, ◌||◌, eqb, leb, ltb, length, take, drop, ℤ, nat_abs}
+use Rattle.std.specs.Prelude.{ℕ, zero, suc, ◌+◌, ◌≡◌, List, [], ◌∷◌, ◌++◌, map, Bool, not, cond, ◌&&◌, ◌||◌, eqb, leb, ltb, length, take, drop, ℤ, nat_abs, Result}
 use Rattle.std.proofs.Math.Option.{Option}
 use Rattle.integers.specs.Equal.{eq_z}
 use Rattle.weighting.specs.Cell.{mark}
@@ -17,7 +17,6 @@ use Rattle.walks.specs.Automaton.{View}
 use Rattle.walks.specs.Tables.{Table}
 use Rattle.book.specs.View.{tick_view}
 use Rattle.monitor.specs.declared.State.{State}
-use Rattle.monitor.specs.declared.Answer.{Answer}
 use Rattle.monitor.specs.Cells.{up_to, held_by, written}
 use Rattle.monitor.specs.Tick.{ticks_later, report_of, score_in, length_in}
 use Rattle.monitor.specs.State.{last_sample, state_sound, piece_later}
@@ -82,8 +81,8 @@ table_after p s t vs n = ticks_later p (piece_view p (last_sample p s) vs) (held
 
 -- ---- the call: what it answers, and what the state and both tables are afterwards; at a refusal as they were
 
-abbrev pub feed_answer : Pattern → State → (first second : List ℤ) → Call → Answer
-feed_answer p s t u c = answer_of (feed_refusal p s t u c)
+abbrev pub feed_answer : Pattern → State → (first second : List ℤ) → Call → Result (Unit {0}) Refusal
+feed_answer p s t u c = answer_of tt (feed_refusal p s t u c)
 
 abbrev pub feed_state : Pattern → State → (first second : List ℤ) → Call → State
 feed_state p s t u c = unless_refused (feed_refusal p s t u c) (piece_later p s c.duration c.values) s

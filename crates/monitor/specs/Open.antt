@@ -1,5 +1,5 @@
 -- Opening (document 01, 'Open': 7; 11, a table shorter than the cells needed).
-use Rattle.std.specs.Prelude.{ℕ, ◌≡◌, List, [], ◌∷◌, ◌++◌, Bool, not, cond, ◌||◌, ltb, length, drop, replicate, ℤ}
+use Rattle.std.specs.Prelude.{ℕ, ◌≡◌, List, [], ◌∷◌, ◌++◌, Bool, not, cond, ◌||◌, ltb, length, drop, replicate, ℤ, Result, Ok, Err}
 use Rattle.std.proofs.Math.Option.{Option, none, some}
 use Rattle.weighting.specs.Cell.{mark}
 use Rattle.pattern.specs.declared.Pattern.{Pattern}
@@ -9,21 +9,19 @@ use Rattle.pattern.specs.Sound.{sound_of}
 use Rattle.pattern.specs.Refusal.{number_of}
 use Rattle.pattern.specs.Cells.{cells_needed}
 use Rattle.monitor.specs.declared.State.{State}
-use Rattle.monitor.specs.declared.Answer.{Answer}
-use Rattle.monitor.specs.declared.Answer.TheVariants.{Done, Refused}
 use Rattle.monitor.specs.Cells.{written}
 use Rattle.monitor.specs.Tick.{open_table}
 use Rattle.monitor.specs.State.{no_ticks}
 
--- what a call answers, by the first cause that it gives
-abbrev pub answer_of : Option Refusal → Answer
-answer_of none = Done
-answer_of (some r) = Refused r
+-- what a call answers: what it hands back, or the first cause that it gives
+abbrev pub answer_of : {A : Type 0} → A → Option Refusal → Result A Refusal
+answer_of a none = Ok a
+answer_of a (some r) = Err r
 
 -- The number of an answer: 0 when done, else the refusal's.
-abbrev pub answer_number : Answer → ℕ
-answer_number Done = 0
-answer_number (Refused r) = number_of r
+abbrev pub answer_number : {A : Type 0} → Result A Refusal → ℕ
+answer_number (Ok a) = 0
+answer_number (Err r) = number_of r
 
 -- what something lent is afterwards: as it was at a refusal
 abbrev pub unless_refused : {A : Type 0} → Option Refusal → A → A → A
@@ -44,8 +42,8 @@ unfoldable pub open_refusal : Pattern → (first second : ℕ) → Option Refusa
 open_refusal p first second =
     first_cause ((not (sound_of p), UnsoundPattern) ∷ (table_too_short p first second, TableTooShort) ∷ [])
 
-abbrev pub open_answer : Pattern → (first second : List ℤ) → Answer
-open_answer p t u = answer_of (open_refusal p (length t) (length u))
+abbrev pub open_answer : Pattern → (first second : List ℤ) → Result (Unit {0}) Refusal
+open_answer p t u = answer_of (tt {0}) (open_refusal p (length t) (length u))
 
 -- Opening writes the lent state: no ticks, zeros.
 abbrev pub open_state : Pattern → (first second : List ℤ) → State → State

@@ -1,26 +1,25 @@
-// The monitor's state and what its calls answer. Opening and feeding are defined in specs/; the crate feed has the code.
+// The monitor's state. Opening and feeding are defined in specs/; the crate feed has the code.
 #![tactic(auto)]
 
-use pattern::Refusal;
+ghost use Rattle.std.specs.Prelude.{◌≡◌};
+ghost use Rattle.monitor.specs.State.{no_ticks};
 
 // What the monitor keeps between calls beside its tables: ticks so far, and the last values, zeros before the first piece
 // and in unused channels.
-#[derive(Clone, Copy)]
+#[derive(Clone, Copy, PartialEq, Eq)]
 pub struct State {
     pub ticks: u32,
     pub last: [i32; 8],
 }
 
-// A call is done, or refused for a cause.
-#[derive(Clone, Copy)]
-pub enum Answer {
-    Done,
-    Refused(Refusal),
-}
-
-// The state after a call beside its answer; at a refusal the state is as it was.
-#[derive(Clone, Copy)]
-pub struct After {
-    pub state: State,
-    pub answer: Answer,
+impl State {
+    // The state that an opening leaves: no ticks, zeros. No `Default`, since the name says which state it is.
+    pub fn no_ticks() -> State
+        ensures { result ≡ no_ticks }
+    {
+        State {
+            ticks: 0,
+            last: [0; 8],
+        }
+    }
 }

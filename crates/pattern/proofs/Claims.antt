@@ -8,7 +8,7 @@ use mathlib.Core.List.Memᴰ
 use mathlib.Core.List.{List, [], ◌∷◌, map, map-append, flat_map, Memᴰ}
 use mathlib.Core.Bool.{Bool, true, false, cond, ◌&&◌}
 use borrow.Author.Tests.{eq-eqb, leb-true}
-use lib.Dec.{T, leb, ltb, eqb, leb→le, le→leb, ltb→lt, lt→ltb}
+use lib.Dec.{T, eqb, leb→le, le→leb, ltb→lt, lt→ltb}
 use lib.IntN.{ℤ, pos, negsuc, nat_abs, ◌-ℤ◌}
 use lib.Signed.{le_z}
 use Rattle.integers.specs.Least.{min_z}
@@ -28,7 +28,7 @@ use Rattle.pattern.specs.InUse.{guards_of, edges_of}
 use Rattle.pattern.specs.Sound.{bounded, banded, bound_in_range, band_in_range, test_in_range, sound_of}
 use Rattle.pattern.specs.Clocks.{on_side}
 use Rattle.pattern.specs.Distance.{reading_of, distance_from, band_distance, distance_in, distances_of, place_worth, DistancesInRange, BandSign, BandIsTwoTests, MarginIsLeast}
-use Rattle.pattern.specs.declared.Counted.TheVariants.{Cells, Refused}
+use Rattle.std.specs.Prelude.{Ok, Err}
 use Rattle.pattern.specs.declared.Refusal.TheVariants.{UnsoundPattern}
 use Rattle.pattern.specs.Cells.{bounds_on, largest, ceiling_of, clock_cells, cells_for, cells_needed, cells_of, counted_as, GuardsSeeHeldClocks, SomeCell, CellsNumbers}
 use Rattle.pattern.proofs.SoundLaws.{parts, band_parts}
@@ -80,7 +80,7 @@ pub cells-numbers : CellsNumbers
 unfolding cells_of
 cells-numbers p = by (sound_of p)
   where
-    by : (t : Bool) → counted_as (cond t (Cells (cells_needed p)) (Refused UnsoundPattern)) ≡ cond t (0, cells_needed p) (7, 0)
+    by : (t : Bool) → counted_as (cond t (Ok (cells_needed p)) (Err UnsoundPattern)) ≡ cond t (0, cells_needed p) (7, 0)
     by true = refl
     by false = refl
 

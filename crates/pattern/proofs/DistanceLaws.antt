@@ -1,15 +1,13 @@
--- A difference of two i32 as the machine makes it in 64 bits, and its negation: exact, and in range. A place's worth,
--- test by test.
+-- How large a distance comes, and a place's worth, test by test.
 use Prim.Native.Nat.{ℕ, ◌+◌, ◌^◌, ◌<◌, ◌≤◌, max}
 use native.Mathlib.Omega.{arith}
-use mathlib.Core.Path.{◌≡◌, refl, sym, ◌∙◌}
+use mathlib.Core.Path.{◌≡◌, refl, sym}
 use mathlib.Core.List.{List, [], ◌∷◌, map, map-append}
 use mathlib.Core.Bool.{Bool, true, false, cond}
 use lib.ListN.{length, take, get_or}
-use lib.IntN.{ℤ, pos, neg_ℤ, nat_abs, ◌-ℤ◌, +ℤ_idl}
-use mir.Syntax.{w32, w64}
-use mir.Val.{SFits, to_z, of_z}
-use mir.Facts.{to_z-of_z}
+use lib.IntN.{ℤ, nat_abs, ◌-ℤ◌}
+use mir.Syntax.{w32}
+use mir.Val.{SFits}
 use Rattle.weighting.specs.declared.Weighing.{Weighing}
 use Rattle.weighting.specs.Weighting.{combine_from, combine_all}
 use Rattle.weighting.proofs.Weightings.{weighting_of}
@@ -21,28 +19,6 @@ use Rattle.pattern.specs.Distance.{Sample, distance_from, band_distance, distanc
 use Rattle.pattern.proofs.ListLaws.{take_more}
 use Rattle.integers.proofs.Linear.{abs_is, mag_is, sub_is}
 use Rattle.integers.proofs.Ranges.{abs_min}
-use Rattle.integers.proofs.Casts.{widen_back, sub_fits}
-use Rattle.integers.proofs.Sums.{sub_turn}
-
--- an i32 widened to an i64
-abbrev pub wide : ℤ → ℤ
-wide z = to_z w64 (of_z w64 (to_z w32 (of_z w32 z)))
-
-module _ (v b : ℤ) (p : SFits w32 v) (q : SFits w32 b) where
-  pub above-fits : SFits w64 (wide v -ℤ wide b)
-  above-fits = rw (widen_back v p, widen_back b q) (sub_fits v b p q)
-
-  pub above-is : to_z w64 (of_z w64 (wide v -ℤ wide b)) ≡ v -ℤ b
-  above-is = to_z-of_z above-fits ∙ rw (widen_back v p, widen_back b q)
-
-  turned : pos 0 -ℤ to_z w64 (of_z w64 (wide v -ℤ wide b)) ≡ b -ℤ v
-  turned = rw above-is (+ℤ_idl (neg_ℤ (v -ℤ b)) ∙ sym (sub_turn b v))
-
-  pub below-fits : SFits w64 (pos 0 -ℤ to_z w64 (of_z w64 (wide v -ℤ wide b)))
-  below-fits = rw turned (sub_fits b v q p)
-
-  pub below-is : to_z w64 (of_z w64 (pos 0 -ℤ to_z w64 (of_z w64 (wide v -ℤ wide b)))) ≡ b -ℤ v
-  below-is = to_z-of_z below-fits ∙ turned
 
 -- ---- sizes
 

@@ -1,10 +1,16 @@
 -- Laws of lists that the kit lacks: the slots that a count names, one element more, lists taken side by side.
-use Prim.Native.Nat.{ℕ, zero, suc, ◌+◌, ◌<◌, min}
+use Prim.Native.Nat.{ℕ, zero, suc, ◌+◌, ◌<◌, ◌≤◌, min}
 use native.Mathlib.Nat.{zero-add}
 use native.Mathlib.Numerals.{add-one}
 use native.Mathlib.Omega.{arith}
 use mathlib.Core.Path.{◌≡◌, refl, sym, ap, subst, ◌∙◌}
 use mathlib.Core.List.{List, [], ◌∷◌, ◌++◌, flat_map, zip_with, append_assoc, append-nil}
+use mathlib.Core.Bool.{Bool, true, false}
+use mathlib.Core.Logic.{◌≢◌}
+use borrow.Author.Tests.{eqb-true, eqb-false}
+use lib.Dec.{eqb}
+use denote.Param.Members.{Mut, Called}
+use Rattle.std.specs.Array.{IsFromFnResultFrom}
 use lib.ListN.{length, take, get_or, set, drop_of_length-le}
 use lib.Seq.{take-suc, take-nil, take_all, paste, paste-suc}
 
@@ -58,3 +64,17 @@ module _ {A B C : Type 0} (f : A → B → C) where
   zip-at (x ∷ xs) [] i a b c h k = absurd (omega arith)
   zip-at (x ∷ xs) (y ∷ ys) zero a b c h k = refl
   zip-at (x ∷ xs) (y ∷ ys) (suc i) a b c h k = zip-at xs ys i a b c (omega arith) (omega arith)
+
+-- what `array::from_fn` gives, place by place, where no call changes the closure
+module _ {F B : Type 0} (g : Mut F (ℕ × Unit {0}) B) (h : ℕ → B) (f : F)
+    (step : (i : ℕ) (b : B) (q : F) → Called g f (i, tt) b q → (q ≡ f) × (b ≡ h i)) where
+  pub made-at : (ys : List B) (n i k : ℕ) (d : B) → IsFromFnResultFrom g f ys i n → i ≤ k → k < i + n → get_or ys k d ≡ h k
+  made-at ys zero i k d r l m = absurd (omega arith)
+  made-at ys (suc n) i k d r l m =
+      let called : (r.0 ≡ f) × (r.1 ≡ h i) = step i r.1 r.0 r.3 in
+      by ys i k d l (r.2.1 d ∙ called.1) (eqb i k) refl
+      (λ low. made-at ys n (i + 1) k d (subst (λ (q : F). IsFromFnResultFrom g q ys (i + 1) n) called.0 r.4) low (omega arith))
+    where
+      by : (ys : List B) (i k : ℕ) (d : B) → i ≤ k → get_or ys i d ≡ h i → (t : Bool) → eqb i k ≡ t → (i + 1 ≤ k → get_or ys k d ≡ h k) → get_or ys k d ≡ h k
+      by ys i k d l here true e later = subst (λ (j : ℕ). get_or ys j d ≡ h j) (eqb-true i k e) here
+      by ys i k d l here false e later = let other : i ≢ k = eqb-false i k e in later (omega arith)

@@ -1,10 +1,9 @@
 -- Ceilings and the cells needed (document 01, 'Monitor tables', 'Count cells').
-use Rattle.std.specs.Prelude.{ℕ, zero, suc, ◌+◌, ◌*◌, ◌^◌, ◌<◌, ◌≤◌, min, max, ◌≡◌, true, cond, eqb, ltb}
+use Rattle.std.specs.Prelude.{ℕ, zero, suc, ◌+◌, ◌*◌, ◌^◌, ◌<◌, ◌≤◌, min, max, ◌≡◌, true, cond, eqb, ltb, Result, Ok, Err}
 use mathlib.Core.List.{List, [], ◌∷◌, flat_map, Memᴰ}
 use Rattle.pattern.specs.declared.Guard.{Guard}
 use Rattle.pattern.specs.declared.Pattern.{Pattern}
-use Rattle.pattern.specs.declared.Counted.{Counted}
-use Rattle.pattern.specs.declared.Counted.TheVariants.{Cells, Refused}
+use Rattle.pattern.specs.declared.Refusal.{Refusal}
 use Rattle.pattern.specs.declared.Refusal.TheVariants.{UnsoundPattern}
 use Rattle.pattern.specs.InUse.{guards_of, edges_of}
 use Rattle.pattern.specs.Clocks.{on_side}
@@ -71,13 +70,13 @@ abbrev pub SomeCell : Type 0
 SomeCell = (p : Pattern) → sound_of p ≡ true → 1 ≤ cells_needed p
 
 -- What an answer says: the refusal's number (0 if there is none), and the cells, zero beside a refusal.
-abbrev pub counted_as : Counted → ℕ × ℕ
-counted_as (Cells n) = (0, n)
-counted_as (Refused r) = (number_of r, 0)
+abbrev pub counted_as : Result ℕ Refusal → ℕ × ℕ
+counted_as (Ok n) = (0, n)
+counted_as (Err r) = (number_of r, 0)
 
 -- "Count cells. 7."
-unfoldable pub cells_of : Pattern → Counted
-cells_of p = cond (sound_of p) (Cells (cells_needed p)) (Refused UnsoundPattern)
+unfoldable pub cells_of : Pattern → Result ℕ Refusal
+cells_of p = cond (sound_of p) (Ok (cells_needed p)) (Err UnsoundPattern)
 
 -- The same in document 01's numbers.
 abbrev pub cells_numbers : Pattern → ℕ × ℕ

@@ -1,10 +1,10 @@
 -- Arrays with unused slots, and tests over lists.
-use Rattle.std.specs.Prelude.{ℕ, List, [], ◌∷◌, Bool, true, ◌&&◌, eqb, leb, length, take, drop}
+use Rattle.std.specs.Prelude.{ℕ, List, Bool, true, ◌&&◌, eqb, leb, length, take, drop}
+use Rattle.std.specs.List.{list_all}
 
 -- Each of the list passes the test.
 abbrev pub all : {A : Type 0} → (A → Bool) → List A → Bool
-all f [] = true
-all f (x ∷ xs) = f x && all f xs
+all = list_all
 
 abbrev pub anything : {A : Type 0} → A → Bool
 anything a = true

@@ -4,18 +4,16 @@ ghost use Rattle.pattern.specs.Distance.{reading_of, distance_from, band_distanc
 
 use super::clocks::in_use;
 use super::{Place, Sign, Test};
-use weighting::{Weighing, combine, lesser, unit};
+use weighting::{Weighing, combine, unit};
 
 // i32 values and bounds become i64 distances: subtracted, and negated for `<` and `<=`.
 fn side_distance(s: Sign, bound: i32, value: i32) -> i64
     ensures { result ≡ distance_from s bound value }
 {
-    let above = value as i64 - bound as i64;
+    let above = i64::from(value) - i64::from(bound);
     match s {
-        Sign::Less => -above,
-        Sign::AtMost => -above,
-        Sign::More => above,
-        Sign::AtLeast => above,
+        Sign::Less | Sign::AtMost => -above,
+        Sign::More | Sign::AtLeast => above,
     }
 }
 
@@ -23,9 +21,9 @@ fn side_distance(s: Sign, bound: i32, value: i32) -> i64
 fn band_distance(low: i32, high: i32, value: i32) -> i64
     ensures { result ≡ band_distance low high value }
 {
-    let above = value as i64 - low as i64;
-    let below = high as i64 - value as i64;
-    lesser(above, below)
+    let above = i64::from(value) - i64::from(low);
+    let below = i64::from(high) - i64::from(value);
+    above.min(below)
 }
 
 // A test's distance.
@@ -35,8 +33,7 @@ pub fn distance(t: Test, value: i32) -> i64
     if t.band {
         band_distance(t.bound, t.high, value)
     } else {
-        let s = t.sign;
-        side_distance(s, t.bound, value)
+        side_distance(t.sign, t.bound, value)
     }
 }
 
@@ -44,8 +41,7 @@ pub fn distance(t: Test, value: i32) -> i64
 pub fn reading(sample: &[i32], channel: u8) -> i32
     ensures { result ≡ reading_of sample.now channel }
 {
-    let k = channel as usize;
-    if k < sample.len() { sample[k] } else { 0 }
+    sample.get(usize::from(channel)).copied().unwrap_or(0)
 }
 
 // One test's distance in a sample, and its size, which any i32 value and bound keep.
@@ -59,13 +55,9 @@ pub fn distance_in(t: Test, sample: &[i32]) -> i64
 pub fn place_worth(w: Weighing, l: Place, sample: &[i32]) -> i64
     ensures { result ≡ place_worth w l sample.now }
 {
-    let n = in_use(l.count, 4);
     let mut worth = unit(w);
-    let mut i: usize = 0;
-    while i < n {
-        let t = l.tests[i];
-        worth = combine(w, worth, distance_in(t, sample));
-        i += 1;
+    for t in in_use(&l.tests, l.count) {
+        worth = combine(w, worth, distance_in(*t, sample));
     }
     worth
 }

@@ -1,4 +1,5 @@
-// A pattern by value, as document 01 names its parts. Counts say how many slots of an array are in use.
+// A pattern by value, as document 01 names its parts. Counts say how many slots of an array are in use: the others are zeros
+// (document 01), and nothing is allocated, so there are no lists.
 #![tactic(auto)]
 
 pub mod clocks;
@@ -15,7 +16,7 @@ ghost use Rattle.pattern.specs.Sound.{place_sound, place_unused, edge_sound, edg
 use weighting::Weighing;
 
 // The four signs of tests and guards: `<`, `<=`, `>`, `>=`.
-#[derive(Clone, Copy)]
+#[derive(Clone, Copy, Debug, PartialEq, Eq)]
 pub enum Sign {
     Less,
     AtMost,
@@ -24,8 +25,9 @@ pub enum Sign {
 }
 
 // What a place asks of a channel: a sign with a bound, or a band, whose low stands as the bound (document 02, R-1). A band
-// says no sign and has `<` there, any other test says no high and has 0 there.
-#[derive(Clone, Copy)]
+// says no sign and has `<` there, any other test says no high and has 0 there. A flag and no enum, since a value that says
+// both is refused as unsound.
+#[derive(Clone, Copy, PartialEq, Eq)]
 pub struct Test {
     pub sign: Sign,
     pub channel: u8,
@@ -35,7 +37,7 @@ pub struct Test {
 }
 
 // Both is start and end.
-#[derive(Clone, Copy)]
+#[derive(Clone, Copy, Debug, PartialEq, Eq)]
 pub enum Kind {
     Start,
     Plain,
@@ -43,14 +45,14 @@ pub enum Kind {
     Both,
 }
 
-#[derive(Clone, Copy)]
+#[derive(Clone, Copy, PartialEq, Eq)]
 pub struct Place {
     pub kind: Kind,
     pub tests: [Test; 4],
     pub count: u8,
 }
 
-#[derive(Clone, Copy)]
+#[derive(Clone, Copy, PartialEq, Eq)]
 pub struct Guard {
     pub sign: Sign,
     pub clock: u8,
@@ -58,7 +60,7 @@ pub struct Guard {
 }
 
 // `count` counts the guards; `resets` has a flag for each clock.
-#[derive(Clone, Copy)]
+#[derive(Clone, Copy, PartialEq, Eq)]
 pub struct Edge {
     pub from: u8,
     pub to: u8,
@@ -68,7 +70,7 @@ pub struct Edge {
 }
 
 // `low` and `high` are the window's.
-#[derive(Clone, Copy)]
+#[derive(Clone, Copy, PartialEq, Eq)]
 pub struct Pattern {
     pub weighing: Weighing,
     pub channels: u8,
@@ -81,10 +83,52 @@ pub struct Pattern {
     pub edges: [Edge; 32],
 }
 
+// Zeros throughout, with the sign `<`, the kind plain and the weighing margin: what a slot that is not in use holds, and a pattern of
+// which nothing was read.
+pub const NO_TEST: Test = Test {
+    sign: Sign::Less,
+    channel: 0,
+    band: false,
+    bound: 0,
+    high: 0,
+};
+
+pub const NO_GUARD: Guard = Guard {
+    sign: Sign::Less,
+    clock: 0,
+    bound: 0,
+};
+
+pub const NO_PLACE: Place = Place {
+    kind: Kind::Plain,
+    tests: [NO_TEST; 4],
+    count: 0,
+};
+
+pub const NO_EDGE: Edge = Edge {
+    from: 0,
+    to: 0,
+    guards: [NO_GUARD; 4],
+    count: 0,
+    resets: [false; 4],
+};
+
+pub const NO_PATTERN: Pattern = Pattern {
+    weighing: Weighing::Margin,
+    channels: 0,
+    clocks: 0,
+    low: 0,
+    high: 0,
+    placecount: 0,
+    places: [NO_PLACE; 16],
+    edgecount: 0,
+    edges: [NO_EDGE; 32],
+};
+
 // The causes of a refusal, in the order of document 01's numbers, from 1 (`number_of` in specs/Refusal).
-#[derive(Clone, Copy)]
+#[derive(Clone, Copy, Debug, PartialEq, Eq)]
 pub enum Refusal {
-    TextTooLong,
+    TextTooLong = 1,
     BrokenForm,
     OutOfRange,
     TooMany,
@@ -100,14 +144,8 @@ pub enum Refusal {
     BrokenCell,
 }
 
-// The answer to a count of cells.
-#[derive(Clone, Copy)]
-pub enum Counted {
-    Cells(u64),
-    Refused(Refusal),
-}
-
-// "channels 1 to 8; clocks 0 to 4; the window's low, 1 to 4,095; its high, low to 4,095"
+// "channels 1 to 8; clocks 0 to 4; the window's low, 1 to 4,095; its high, low to 4,095" (By `contains` of ranges the proof did
+// not close.)
 fn header_sound(channels: u8, clocks: u8, low: u16, high: u16) -> bool
     ensures { result ≡ header_in_range channels clocks low high }
 {
@@ -120,42 +158,23 @@ fn header_sound(channels: u8, clocks: u8, low: u16, high: u16) -> bool
 fn places_sound(p: Pattern) -> bool
     ensures { result ≡ slots (place_sound p.channels) place_unused 16 p.placecount p.places }
 {
-    let n = p.placecount as usize;
-    let channels = p.channels;
-    let mut ok = n <= 16;
-    let mut i: usize = 0;
-    while i < 16 {
-        let l = p.places[i];
-        ok = ok
-            & slots::pick(
-                i < n,
-                slots::place_sound(l, channels),
-                slots::place_unused(l),
-            );
-        i += 1;
-    }
-    ok
+    slots::sound(
+        &p.places,
+        p.placecount,
+        |l| slots::place_sound(*l, p.channels),
+        |l| slots::place_unused(*l),
+    )
 }
 
 fn edges_sound(p: Pattern) -> bool
     ensures { result ≡ slots (edge_sound p.clocks p.placecount) edge_unused 32 p.edgecount p.edges }
 {
-    let n = p.edgecount as usize;
-    let clocks = p.clocks;
-    let places = p.placecount;
-    let mut ok = n <= 32;
-    let mut i: usize = 0;
-    while i < 32 {
-        let e = p.edges[i];
-        ok = ok
-            & slots::pick(
-                i < n,
-                slots::edge_sound(e, clocks, places),
-                slots::edge_unused(e),
-            );
-        i += 1;
-    }
-    ok
+    slots::sound(
+        &p.edges,
+        p.edgecount,
+        |e| slots::edge_sound(*e, p.clocks, p.placecount),
+        |e| slots::edge_unused(*e),
+    )
 }
 
 // Whether some text reads as the pattern value. Any value is answered.
@@ -169,15 +188,14 @@ pub fn sound(p: Pattern) -> bool
 }
 
 // All four radices; a clock that the pattern lacks has radix 1.
+// That the pattern is sound is asked here and in `cells_needed`.
 fn radices(p: Pattern) -> u64
     requires { sound_of p ≡ true }
     ensures { result ≡ radix_product p 4 }
 {
     let mut product: u64 = 1;
-    let mut k: u8 = 0;
-    while k < 4 {
-        product = product * clocks::radix(p, k);
-        k += 1;
+    for k in 0..4 {
+        product *= clocks::radix(p, k);
     }
     product
 }
@@ -187,18 +205,18 @@ fn cells_needed(p: Pattern) -> u64
     requires { sound_of p ≡ true }
     ensures { result ≡ cells_needed p }
 {
-    (p.high as u64 + 1) * 2 * (p.placecount as u64) * radices(p)
+    (u64::from(p.high) + 1) * 2 * u64::from(p.placecount) * radices(p)
 }
 
 // The cells needed, or refusal 7.
-pub fn cells(p: Pattern) -> Counted
+pub fn cells(p: Pattern) -> Result<u64, Refusal>
     ensures value { result ≡ cells_of p }
     ensures result_value { counted_as result ≡ cells_numbers p }
 {
     if sound(p) {
-        Counted::Cells(cells_needed(p))
+        Ok(cells_needed(p))
     } else {
-        Counted::Refused(Refusal::UnsoundPattern)
+        Err(Refusal::UnsoundPattern)
     }
 }
 
@@ -206,44 +224,21 @@ pub fn cells(p: Pattern) -> Counted
 pub fn is_start(k: Kind) -> bool
     ensures { result ≡ is_start k }
 {
-    match k {
-        Kind::Start => true,
-        Kind::Plain => false,
-        Kind::End => false,
-        Kind::Both => true,
-    }
+    matches!(k, Kind::Start | Kind::Both)
 }
 
 // May a run end in a place of this kind?
 pub fn is_end(k: Kind) -> bool
     ensures { result ≡ is_end k }
 {
-    match k {
-        Kind::Start => false,
-        Kind::Plain => false,
-        Kind::End => true,
-        Kind::Both => true,
-    }
+    matches!(k, Kind::End | Kind::Both)
 }
 
 // The number of a refusal in document 01.
-pub fn number(r: Refusal) -> u8
-    ensures { result ≡ number_of r }
-{
-    match r {
-        Refusal::TextTooLong => 1,
-        Refusal::BrokenForm => 2,
-        Refusal::OutOfRange => 3,
-        Refusal::TooMany => 4,
-        Refusal::UnknownIndex => 5,
-        Refusal::OutputTooShort => 6,
-        Refusal::UnsoundPattern => 7,
-        Refusal::BrokenRecord => 8,
-        Refusal::BrokenSteps => 9,
-        Refusal::NotARun => 10,
-        Refusal::TableTooShort => 11,
-        Refusal::BrokenState => 12,
-        Refusal::TooManyTicks => 13,
-        Refusal::BrokenCell => 14,
+impl From<Refusal> for u8 {
+    ghost from_gives = { λ r n. n ≡ number_of r };
+
+    fn from(r: Refusal) -> u8 {
+        r as u8
     }
 }

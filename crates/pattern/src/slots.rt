@@ -1,61 +1,57 @@
 // Whether each slot of a pattern value is as a text can have it: in use and in range, or unused and zeros.
-// A loop looks at every slot of an array; its turn says whether the slot is fine.
-ghost use Rattle.std.specs.Prelude.{◌≡◌, not, ◌&&◌, cond};
+ghost use Rattle.std.specs.Prelude.{◌≡◌, not, ◌&&◌, Bool, length};
 ghost use Rattle.pattern.specs.Slots.{slots, anything};
-ghost use Rattle.pattern.specs.Sound.{is_less, is_plain, test_unused, guard_unused, place_unused, edge_unused};
+ghost use Rattle.pattern.specs.Sound.{test_unused, guard_unused, place_unused, edge_unused};
 ghost use Rattle.pattern.specs.Sound.{bound_in_range, band_in_range, unsaid_zero, test_in_range, test_sound};
 ghost use Rattle.pattern.specs.Sound.{guard_in_range, guard_known, place_sound, edge_sound};
+ghost use Rattle.std.specs.Fn.{FnReturnsAt};
+ghost use Rattle.std.specs.List.{list_all};
 
-use super::{Edge, Guard, Kind, Place, Sign, Test};
+use super::{Edge, Guard, Kind, NO_GUARD, NO_TEST, Place, Sign, Test};
 
-// The one or the other, by a test.
-pub fn pick(test: bool, a: bool, b: bool) -> bool
-    ensures { result ≡ cond test a b }
+// Whether each element passes the test.
+fn all<T, F: Fn(&T) -> bool>(xs: &[T], test: F) -> bool
+    requires { F.IsAlwaysCallable test }
+    ensures { (p : T → Bool) → ((x : T) (r : Bool) → FnReturnsAt F.Fn test x r → r ≡ p x) → result ≡ list_all p xs.now }
 {
-    if test { a } else { b }
+    xs.iter().all(test)
 }
 
-pub fn is_less(s: Sign) -> bool
-    ensures { result ≡ is_less s }
+// Whether an array has its first `count` slots in use, each as `used` has it, and the others as `unused` has them.
+pub fn sound<T, U: Fn(&T) -> bool, N: Fn(&T) -> bool>(
+    xs: &[T],
+    count: u8,
+    used: U,
+    unused: N,
+) -> bool
+    requires used { U.IsAlwaysCallable used }
+    requires unused { N.IsAlwaysCallable unused }
+    ensures { (p q : T → Bool)
+        → ((x : T) (r : Bool) → FnReturnsAt U.Fn used x r → r ≡ p x)
+        → ((x : T) (r : Bool) → FnReturnsAt N.Fn unused x r → r ≡ q x)
+        → result ≡ slots p q (length xs.now) count xs.now }
 {
-    match s {
-        Sign::Less => true,
-        Sign::AtMost => false,
-        Sign::More => false,
-        Sign::AtLeast => false,
-    }
-}
-
-pub fn is_plain(k: Kind) -> bool
-    ensures { result ≡ is_plain k }
-{
-    match k {
-        Kind::Start => false,
-        Kind::Plain => true,
-        Kind::End => false,
-        Kind::Both => false,
-    }
+    let n = usize::from(count);
+    n <= xs.len() && all(&xs[..n], used) && all(&xs[n..], unused)
 }
 
 pub fn test_unused(t: Test) -> bool
     ensures { result ≡ test_unused t }
 {
-    let s = t.sign;
-    is_less(s) & (t.channel == 0) & !t.band & (t.bound == 0) & (t.high == 0)
+    t == NO_TEST
 }
 
 pub fn guard_unused(g: Guard) -> bool
     ensures { result ≡ guard_unused g }
 {
-    let s = g.sign;
-    is_less(s) & (g.clock == 0) & (g.bound == 0)
+    g == NO_GUARD
 }
 
 // "a bound from -1,000,000 to 1,000,000"
 fn bound_in_range(b: i32) -> bool
     ensures { result ≡ bound_in_range b }
 {
-    (-1000000 <= b) & (b <= 1000000)
+    (-1_000_000..=1_000_000).contains(&b)
 }
 
 // Both ends in a bound's range, the low not above the high.
@@ -80,8 +76,11 @@ pub fn test_in_range(t: Test) -> bool
 fn unsaid_zero(t: Test) -> bool
     ensures { result ≡ unsaid_zero t }
 {
-    let s = t.sign;
-    pick(t.band, is_less(s), t.high == 0)
+    if t.band {
+        t.sign == Sign::Less
+    } else {
+        t.high == 0
+    }
 }
 
 // In range, of a channel of the pattern's, and silent on the rest.
@@ -102,63 +101,47 @@ pub fn guard_sound(g: Guard, clocks: u8) -> bool
 pub fn place_sound(l: Place, channels: u8) -> bool
     ensures { result ≡ place_sound channels l }
 {
-    let n = l.count as usize;
-    let mut ok = n <= 4;
-    let mut i: usize = 0;
-    while i < 4 {
-        let t = l.tests[i];
-        ok = ok & pick(i < n, test_sound(t, channels), test_unused(t));
-        i += 1;
-    }
-    ok
+    sound(
+        &l.tests,
+        l.count,
+        |t| test_sound(*t, channels),
+        |t| test_unused(*t),
+    )
 }
 
 // Where no slot is in use, what a slot in use would have to be does not matter.
 pub fn place_unused(l: Place) -> bool
     ensures { result ≡ place_unused l }
 {
-    let k = l.kind;
-    is_plain(k) & (l.count == 0) & place_sound(l, 0)
+    (l.kind == Kind::Plain) & (l.count == 0) & place_sound(l, 0)
 }
 
 pub fn guards_sound(e: Edge, clocks: u8) -> bool
     ensures { result ≡ slots (λ g. guard_in_range g && guard_known clocks g) guard_unused 4 e.count e.guards }
 {
-    let n = e.count as usize;
-    let mut ok = n <= 4;
-    let mut i: usize = 0;
-    while i < 4 {
-        let g = e.guards[i];
-        ok = ok & pick(i < n, guard_sound(g, clocks), guard_unused(g));
-        i += 1;
-    }
-    ok
+    sound(
+        &e.guards,
+        e.count,
+        |g| guard_sound(*g, clocks),
+        |g| guard_unused(*g),
+    )
 }
 
 // A flag may be set only for a clock that the pattern has.
 pub fn resets_sound(resets: [bool; 4], clocks: u8) -> bool
     ensures { result ≡ slots anything not 4 clocks resets }
 {
-    let n = clocks as usize;
-    let mut ok = n <= 4;
-    let mut i: usize = 0;
-    while i < 4 {
-        ok = ok & pick(i < n, true, !resets[i]);
-        i += 1;
-    }
-    ok
+    sound(&resets, clocks, |_| true, |reset| !*reset)
 }
 
 pub fn edge_sound(e: Edge, clocks: u8, places: u8) -> bool
     ensures { result ≡ edge_sound clocks places e }
 {
-    let f = e.resets;
-    (e.from < places) & (e.to < places) & guards_sound(e, clocks) & resets_sound(f, clocks)
+    (e.from < places) & (e.to < places) & guards_sound(e, clocks) & resets_sound(e.resets, clocks)
 }
 
 pub fn edge_unused(e: Edge) -> bool
     ensures { result ≡ edge_unused e }
 {
-    let f = e.resets;
-    (e.from == 0) & (e.to == 0) & (e.count == 0) & guards_sound(e, 0) & resets_sound(f, 0)
+    (e.from == 0) & (e.to == 0) & (e.count == 0) & guards_sound(e, 0) & resets_sound(e.resets, 0)
 }

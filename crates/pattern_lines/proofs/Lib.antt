@@ -1,3 +1,2 @@
--- Laws: the lines of a pattern text, one by one.
+-- Laws: a header's ranges.
 pub mod Judgement
-pub mod TurnLaws

@@ -1,123 +1,45 @@
--- A line, judged and put into the pattern, for the contracts of the functions below `turn`.
-use Rattle.std.specs.Prelude.{ℕ, ◌+◌, min, Bool, cond, ◌&&◌, ltb, length, set}
+-- A line, judged and put into the pattern, for the contracts of the functions below `first_line` and `further_line`.
+use Rattle.std.specs.Prelude.{ℕ, ◌+◌, min, Bool, cond, ◌&&◌, ltb, eqb, set, replicate, Result, Ok, Err}
+use Rattle.std.specs.Borrow.{Bor}
 use Rattle.std.proofs.Math.Option.{Option, none, some}
 use Rattle.pattern.specs.declared.Refusal.{Refusal}
 use Rattle.pattern.specs.declared.Refusal.TheVariants.{BrokenForm, OutOfRange}
-use Rattle.pattern.specs.declared.Kind.{Kind}
+use Rattle.pattern.specs.declared.Test.{Test}
 use Rattle.pattern.specs.declared.Place.{Place}
 use Rattle.pattern.specs.declared.Edge.{Edge}
 use Rattle.pattern.specs.declared.Pattern.{Pattern}
-use Rattle.pattern.specs.Sound.{no_place, no_edge, no_pattern, header_in_range}
-use Rattle.pattern_text.specs.Bytes.{Bytes}
+use Rattle.pattern.specs.Sound.{no_place, no_edge, header_in_range}
+use Rattle.pattern_text.specs.Bytes.{Bytes, Reading, got, broken}
+use Rattle.pattern_text.specs.Form.{giving, ◌◂◌}
+use Rattle.pattern_text.specs.Line.{header_line, place_line, edge_line}
 use Rattle.pattern_text.specs.Fault.{judged}
+use Rattle.line_lists.specs.declared.Parts.{Parts}
 use Rattle.line_read.specs.declared.Header.{Header}
-use Rattle.line_read.specs.declared.HeaderRead.{HeaderRead}
-use Rattle.line_read.specs.declared.HeaderRead as headerread
-use Rattle.line_lists.specs.declared.Tests.{Tests}
-use Rattle.line_read.specs.declared.PlaceRead.{PlaceRead}
-use Rattle.line_read.specs.declared.EdgeRead.{EdgeRead}
-use Rattle.line_read.specs.Lines.{header_at, place_at, edge_at}
-use Rattle.pattern_lines.specs.declared.Stage.TheVariants.{Places, Edges}
-use Rattle.pattern_lines.specs.declared.Stage as stage
-use Rattle.pattern_lines.specs.declared.State.{State}
-use Rattle.pattern_lines.specs.declared.Counts.{Counts}
-use Rattle.pattern_lines.specs.declared.Content as content
-use Rattle.pattern_lines.specs.declared.Line.{Line}
-use Rattle.pattern_lines.specs.declared.Verdict.{Verdict}
-use Rattle.pattern_lines.specs.declared.Verdict.TheVariants.{Fine, Faulty}
+use Rattle.line_read.specs.declared.PlaceLine.{PlaceLine}
+use Rattle.line_read.specs.declared.EdgeLine.{EdgeLine}
+use Rattle.line_read.specs.Lines.{held_header, held_place, held_edge}
 
 -- ---- a line, judged
 
--- a line that holds neither a place nor an edge
-abbrev pub bare_line : ℕ → content.Content → Line
-bare_line at c = record { at = at; content = c; place = no_place; edge = no_edge }
-
--- a line of a place, and of an edge
-abbrev pub of_place : ℕ → Place → Line
-of_place at place = record { at = at; content = content.TheVariants.Place; place = place; edge = no_edge }
-
-abbrev pub of_edge : ℕ → Edge → Line
-of_edge at edge = record { at = at; content = content.TheVariants.Edge; place = no_place; edge = edge }
-
--- a refusal ends the walk at the text's end
-abbrev pub refused_line : ℕ → Refusal → Line
-refused_line end r = bare_line end (content.TheVariants.Refused r)
-
 -- the fault of a line, as the code has it
-abbrev pub verdict : Option Refusal → Verdict
-verdict none = Fine
-verdict (some r) = Faulty r
+abbrev pub verdict : Option Refusal → Result Unit Refusal
+verdict none = Ok tt
+verdict (some r) = Err r
 
 -- 4, 3, 5, in this order
-unfoldable pub verdict_of : (few inrange known : Bool) → Verdict
-verdict_of few inrange known = verdict (judged few inrange known)
+unfoldable pub verdict_of : (few in_range known : Bool) → Result Unit Refusal
+verdict_of few in_range known = verdict (judged few in_range known)
+
+-- what a reading gives: something and the rest, or nothing
+abbrev pub on_read : {A B : Type 0} → (A → Bytes → B) → B → Reading A → B
+on_read f other (got a r) = f a r
+on_read f other broken = other
 
 -- ---- the header
 
 -- "channels 1 to 8; clocks 0 to 4; the window's low, 1 to 4,095; its high, low to 4,095"
 unfoldable pub header_fine : Header → Bool
 header_fine h = header_in_range h.channels h.clocks h.low h.high
-
-abbrev pub header_judged : Bytes → HeaderRead → Line
-header_judged t headerread.TheVariants.Broken = refused_line (length t) BrokenForm
-header_judged t (headerread.TheVariants.Value h next) = cond (header_fine h) (bare_line next (content.TheVariants.Header h)) (refused_line (length t) OutOfRange)
-
--- the header's line, judged
-unfoldable pub header_line_at : Bytes → ℕ → Line
-header_line_at t at = header_judged t (header_at t at)
-
--- ---- places and edges
-
--- what a judgement makes of a line
-abbrev pub ruled : ℕ → Verdict → Line → Line
-ruled end Fine line = line
-ruled end (Faulty r) line = refused_line end r
-
--- "1 to 16 places .. with 0 to 4 tests", in a pattern with `count` places
-unfoldable pub place_verdict : ℕ → Tests → Verdict
-place_verdict count tests = verdict_of (ltb count 16 && ltb tests.count 5) tests.inrange tests.known
-
--- the place of a line without a fault
-unfoldable pub place_from : Kind → Tests → Place
-place_from kind tests = record { kind = kind; tests = tests.tests; count = tests.count }
-
--- a place's line that was read, judged
-unfoldable pub place_judged : (end places : ℕ) → PlaceRead → Line
-place_judged end places line = ruled end (place_verdict places line.tests) (of_place line.next (place_from line.kind line.tests))
-
--- "0 to 32 edges .. 0 to 4 guards", in a pattern with `count` edges
-unfoldable pub edge_verdict : (places count : ℕ) → EdgeRead → Verdict
-edge_verdict places count line = verdict_of
-    (ltb count 32 && ltb line.guards.count 5)
-    line.guards.inrange
-    (ltb line.from places && ltb line.to places && line.guards.known && line.resets.known)
-
--- the edge of a line without a fault
-unfoldable pub edge_from : EdgeRead → Edge
-edge_from line = record { from = min 255 line.from; to = min 255 line.to; guards = line.guards.guards; count = line.guards.count; resets = line.resets.flags }
-
--- an edge's line that was read, judged: there must be a place above it
-unfoldable pub edge_judged : (end places edges : ℕ) → EdgeRead → Line
-edge_judged end places edges line = cond (ltb places 1)
-    (refused_line end BrokenForm)
-    (ruled end (edge_verdict places edges line) (of_edge line.next (edge_from line)))
-
--- an edge's line, or a broken form
-unfoldable pub edge_line_at : Bytes → ℕ → Counts → Line
-edge_line_at t at n = cond (edge_at n.clocks t at).found (edge_judged (length t) n.places n.edges (edge_at n.clocks t at)) (refused_line (length t) BrokenForm)
-
--- a place's line, or an edge's
-unfoldable pub place_line_at : Bytes → ℕ → Counts → Line
-place_line_at t at n = cond (place_at n.channels t at).found (place_judged (length t) n.places (place_at n.channels t at)) (edge_line_at t at n)
-
--- the line that may stand next
-abbrev pub line_at : Bytes → stage.Stage → ℕ → Counts → Line
-line_at t stage.TheVariants.Header at n = header_line_at t at
-line_at t stage.TheVariants.Places at n = place_line_at t at n
-line_at t stage.TheVariants.Edges at n = edge_line_at t at n
-line_at t (stage.TheVariants.Refused r) at n = refused_line (length t) r
-
--- ---- a line, put into the pattern
 
 -- a pattern of a header alone
 unfoldable pub header_alone : Header → Pattern
@@ -128,61 +50,96 @@ header_alone h = record {
   low = min 65_535 h.low;
   high = min 65_535 h.high;
   placecount = 0;
-  places = no_pattern.places;
+  places = replicate 16 no_place;
   edgecount = 0;
-  edges = no_pattern.edges;
+  edges = replicate 32 no_edge;
 }
+
+-- a header that was read, judged: the pattern that it begins, and what is left of the text
+abbrev pub header_judged : Header → Bytes → Result (Pattern × Bytes) Refusal
+header_judged h r = cond (header_fine h) (Ok (header_alone h, r)) (Err OutOfRange)
+
+-- the header's line, or a broken form
+unfoldable pub header_turn : Bytes → Result (Pattern × Bytes) Refusal
+header_turn t = on_read header_judged (Err BrokenForm) (giving held_header ((header_line ◂ "\n").read t))
+
+-- the same as the code answers it
+abbrev pub begun : Result (Pattern × Bor Bytes) Refusal → Result (Pattern × Bytes) Refusal
+begun (Ok x) = Ok (x.0, x.1.now)
+begun (Err r) = Err r
+
+-- ---- places and edges
+
+-- "1 to 16 places .. with 0 to 4 tests", in a pattern with `count` places
+unfoldable pub place_verdict : ℕ → Parts Test 4 → Result Unit Refusal
+place_verdict count tests = verdict_of (ltb count 16 && ltb tests.count 5) tests.in_range tests.known
+
+-- the place of a line without a fault
+unfoldable pub place_from : PlaceLine → Place
+place_from line = record { kind = line.kind; tests = line.tests.parts; count = min 255 line.tests.count }
+
+-- "0 to 32 edges .. 0 to 4 guards", in a pattern with `count` edges
+unfoldable pub edge_verdict : (places count : ℕ) → EdgeLine → Result Unit Refusal
+edge_verdict places count line = verdict_of
+    (ltb count 32 && ltb line.guards.count 5)
+    line.guards.in_range
+    (ltb line.from places && ltb line.to places && line.guards.known && line.resets.known)
+
+-- the edge of a line without a fault
+unfoldable pub edge_from : EdgeLine → Edge
+edge_from line = record { from = min 255 line.from; to = min 255 line.to; guards = line.guards.parts; count = min 255 line.guards.count; resets = line.resets.flags }
+
+-- ---- a line, put into the pattern
 
 -- one place more, one edge more, if there is room
 unfoldable pub put_place : Pattern → Place → Pattern
-put_place p place = record {
-  weighing = p.weighing;
-  channels = p.channels;
-  clocks = p.clocks;
-  low = p.low;
-  high = p.high;
+put_place p place = record p {
   placecount = cond (ltb p.placecount 16) (p.placecount + 1) p.placecount;
   places = cond (ltb p.placecount 16) (set p.places p.placecount place) p.places;
-  edgecount = p.edgecount;
-  edges = p.edges;
 }
 
 unfoldable pub put_edge : Pattern → Edge → Pattern
-put_edge p edge = record {
-  weighing = p.weighing;
-  channels = p.channels;
-  clocks = p.clocks;
-  low = p.low;
-  high = p.high;
-  placecount = p.placecount;
-  places = p.places;
+put_edge p edge = record p {
   edgecount = cond (ltb p.edgecount 32) (p.edgecount + 1) p.edgecount;
   edges = cond (ltb p.edgecount 32) (set p.edges p.edgecount edge) p.edges;
 }
 
--- zeros beside a refusal
-unfoldable pub refused_at : ℕ → Refusal → State
-refused_at end r = record { at = end; stage = stage.TheVariants.Refused r; pattern = no_pattern }
+-- the pattern with a line that has no fault, and as it was at a fault
+abbrev pub put_if : Result Unit Refusal → (with before : Pattern) → Pattern
+put_if (Ok u) with before = with
+put_if (Err r) with before = before
 
--- what a line holds, put into the pattern; after an edge no place may come
-abbrev pub put : Pattern → Line → content.Content → State
-put p line (content.TheVariants.Header h) = record { at = line.at; stage = Places; pattern = header_alone h }
-put p line content.TheVariants.Place = record { at = line.at; stage = Places; pattern = put_place p line.place }
-put p line content.TheVariants.Edge = record { at = line.at; stage = Edges; pattern = put_edge p line.edge }
-put p line (content.TheVariants.Refused r) = refused_at line.at r
+-- ---- a turn: what is left of the text, or the fault; and the pattern
 
-unfoldable pub put_line : Pattern → Line → State
-put_line p line = put p line line.content
+abbrev pub Turn : Type 0
+Turn = Result Bytes Refusal × Pattern
 
--- ---- a turn
+-- what is left, as the code answers it
+abbrev pub left_by : Result (Bor Bytes) Refusal → Result Bytes Refusal
+left_by (Ok r) = Ok r.now
+left_by (Err r) = Err r
 
--- what the next line is judged by
-abbrev pub counts_of : Pattern → Counts
-counts_of p = record { channels = p.channels; clocks = p.clocks; places = p.placecount; edges = p.edgecount }
+-- what a judgement makes of a line
+abbrev pub ruled : Result Unit Refusal → (with before : Pattern) → Bytes → Turn
+ruled (Ok u) with before r = (Ok r, with)
+ruled (Err e) with before r = (Err e, before)
 
-abbrev pub turned : Bytes → stage.Stage → ℕ → Pattern → State
-turned t s at p = put_line p (line_at t s at (counts_of p))
+-- a place's line that was read, judged
+unfoldable pub place_judged : Pattern → PlaceLine → Bytes → Turn
+place_judged p line r = ruled (place_verdict p.placecount line.tests) (put_place p (place_from line)) p r
 
--- one line more
-unfoldable pub turn_of : Bytes → State → State
-turn_of t s = turned t s.stage s.at s.pattern
+-- an edge's line that was read, judged: there must be a place above it
+unfoldable pub edge_judged : Pattern → EdgeLine → Bytes → Turn
+edge_judged p line r = cond (ltb p.placecount 1) (Err BrokenForm, p) (ruled (edge_verdict p.placecount p.edgecount line) (put_edge p (edge_from line)) p r)
+
+-- an edge's line, or a broken form
+unfoldable pub edge_turn : Pattern → Bytes → Turn
+edge_turn p t = on_read (edge_judged p) (Err BrokenForm, p) (giving (held_edge p.clocks) ((edge_line ◂ "\n").read t))
+
+-- a place's line, or an edge's
+unfoldable pub place_turn : Pattern → Bytes → Turn
+place_turn p t = on_read (place_judged p) (edge_turn p t) (giving (held_place p.channels) ((place_line ◂ "\n").read t))
+
+-- the line that may stand next: after an edge no place may come
+unfoldable pub line_turn : Pattern → Bytes → Turn
+line_turn p t = cond (eqb p.edgecount 0) (place_turn p t) (edge_turn p t)

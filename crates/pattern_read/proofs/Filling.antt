@@ -6,10 +6,10 @@ use mathlib.Core.List.{List, [], ◌∷◌, ◌++◌, map, map-append}
 use mathlib.Core.Option.{none}
 use mathlib.Core.Bool.{true, ◌&&◌}
 use lib.Dec.{leb, ltb}
-use lib.ListN.{length, set, length-append, length-map}
+use lib.ListN.{length, set, replicate, length-append, length-map}
 use borrow.Author.Tests.{leb-true, ltb-true, lt-ltb}
-use Rattle.pattern.specs.Slots.{all}
-use Rattle.pattern.specs.Sound.{no_place, no_edge, test_in_range, test_known, guard_in_range, guard_known, header_in_range, no_pattern}
+use Rattle.pattern.specs.Slots.{all, within}
+use Rattle.pattern.specs.Sound.{no_place, no_edge, test_in_range, test_known, guard_in_range, guard_known, header_in_range}
 use Rattle.pattern.proofs.SlotLaws.{all-mapped}
 use Rattle.pattern_text.specs.Line.{test_of, Header, PlaceLine, EdgeLine}
 use Rattle.pattern_text.specs.Fault.{Doc, rising, edge_known, raw_in_range, raw_known, place_fault, edge_fault, with_place, with_edge}
@@ -18,16 +18,33 @@ use Rattle.pattern_text.proofs.Tools.{both, four}
 use Rattle.pattern_text.proofs.ForCode.{pad_snoc}
 use Rattle.pattern_text.proofs.Runs.{clear, head_fits, Fits}
 use Rattle.text_scan.specs.Scan.{cap}
-use Rattle.line_read.specs.declared.EdgeRead.{EdgeRead}
-use Rattle.line_lists.specs.Lists.{gathered_tests, gathered_guards}
-use Rattle.line_lists.specs.ResetList.{no_resets, added}
-use Rattle.line_read.specs.Lines.{held_header}
+use Rattle.line_lists.specs.Lists.{gathered}
+use Rattle.line_read.specs.Lines.{held_header, held_place, held_edge}
 use Rattle.line_lists.proofs.Held.{min-ltb}
 use Rattle.pattern_lines.specs.Turn.{verdict, verdict_of, header_fine, header_alone, put_place, place_verdict, place_from, put_edge, edge_verdict, edge_from}
-use Rattle.pattern_lines.proofs.Judgement.{InRange, ranges}
 use Rattle.pattern_read.proofs.HeldLines.{header_held, few-held, place-held, guards-held, resets-held, resets-known}
 
 -- ---- the header
+
+record InRange (c k l h : ℕ) : Type 0 where
+  some : 1 ≤ c
+  few : c ≤ 8
+  clocks : k ≤ 4
+  least : 1 ≤ l
+  low : l ≤ 4_095
+  above : l ≤ h
+  high : h ≤ 4_095
+
+ranges : (channels clocks low high : ℕ) → header_in_range channels clocks low high ≡ true → InRange channels clocks low high
+unfolding header_in_range
+ranges c k l h e =
+    let a = both (within 1 8 c && leb k 4 && within 1 4_095 l) (within l 4_095 h) e in
+    let b = both (within 1 8 c && leb k 4) (within 1 4_095 l) a.0 in
+    let d = both (within 1 8 c) (leb k 4) b.0 in
+    let x = both (leb 1 c) (leb c 8) d.0 in
+    let y = both (leb 1 l) (leb l 4_095) b.1 in
+    let z = both (leb l h) (leb h 4_095) a.1 in
+    record { some = leb-true 1 c x.0; few = leb-true c 8 x.1; clocks = leb-true k 4 d.1; least = leb-true 1 l y.0; low = leb-true l 4_095 y.1; above = leb-true l h z.0; high = leb-true h 4_095 z.1 }
 
 abbrev pub headed : Header → Doc
 headed h = record { head = h; places = []; edges = [] }
@@ -44,11 +61,11 @@ header_filled h e =
     let k : min 255 (min cap h.clocks) ≡ h.clocks = omega arith in
     let l : min 65_535 (min cap h.low) ≡ h.low = omega arith in
     let m : min 65_535 (min cap h.high) ≡ h.high = omega arith in
-    λ i. record { weighing = h.weighing; channels = c i; clocks = k i; low = l i; high = m i; placecount = 0; places = no_pattern.places; edgecount = 0; edges = no_pattern.edges }
+    λ i. record { weighing = h.weighing; channels = c i; clocks = k i; low = l i; high = m i; placecount = 0; places = replicate 16 no_place; edgecount = 0; edges = replicate 32 no_edge }
 
 -- ---- what fits is small
 
-pub small : (d : Doc) → Fits d → InRange d.head.channels d.head.clocks d.head.low d.head.high
+small : (d : Doc) → Fits d → InRange d.head.channels d.head.clocks d.head.low d.head.high
 unfolding head_fits
 small d f = ranges d.head.channels d.head.clocks d.head.low d.head.high f.head
 
@@ -79,11 +96,11 @@ place-put d l h = rw (lt-ltb (length d.places) 16 h) (λ i. record {
 })
 
 module _ (d : Doc) (fits : Fits d) (l : PlaceLine) where
-  pub place-judged : place_verdict (length d.places) (gathered_tests d.head.channels (map test_of l.tests)) ≡ verdict (place_fault d l)
-  unfolding place_verdict verdict_of gathered_tests place_fault
+  pub place-judged : place_verdict (length d.places) (held_place d.head.channels l).tests ≡ verdict (place_fault d l)
+  unfolding place_verdict verdict_of gathered place_fault
   place-judged = rw (length-map l.tests test_of, few-held (length l.tests), all-mapped test_in_range test_of l.tests, all-mapped (test_known d.head.channels) test_of l.tests) refl
 
-  pub place_filled : place_fault d l ≡ none → put_place (pattern_of d) (place_from l.kind (gathered_tests d.head.channels (map test_of l.tests))) ≡ pattern_of (with_place d l)
+  pub place_filled : place_fault d l ≡ none → put_place (pattern_of d) (place_from (held_place d.head.channels l)) ≡ pattern_of (with_place d l)
   unfolding place_fault
   place_filled e =
       let c = clear (ltb (length d.places) 16 && leb (length l.tests) 4) (all raw_in_range l.tests) (all (raw_known d.head.channels) l.tests) e in
@@ -109,23 +126,19 @@ edge-put d e h = rw (lt-ltb (length d.edges) 32 h) (λ i. record {
   edges = filled 32 no_edge edge_of d.edges e h i;
 })
 
--- an edge's line as it is read
-abbrev pub edge_read : (clocks : ℕ) → EdgeLine → ℕ → EdgeRead
-edge_read clocks e n = record { found = true; from = min cap e.from; to = min cap e.to; guards = gathered_guards clocks e.guards; resets = added clocks no_resets e.resets; next = n }
-
-edge-held : (d : Doc) → Fits d → (e : EdgeLine) (n : ℕ) → length e.guards ≤ 4 → all guard_in_range e.guards ≡ true → all (guard_known d.head.clocks) e.guards ≡ true → e.from < length d.places → e.to < length d.places → edge_from (edge_read d.head.clocks e n) ≡ edge_of e
-unfolding edge_from edge_of gathered_guards
-edge-held d fits e n h r k p q =
+edge-held : (d : Doc) → Fits d → (e : EdgeLine) → length e.guards ≤ 4 → all guard_in_range e.guards ≡ true → all (guard_known d.head.clocks) e.guards ≡ true → e.from < length d.places → e.to < length d.places → edge_from (held_edge d.head.clocks e) ≡ edge_of e
+unfolding edge_from edge_of gathered
+edge-held d fits e h r k p q =
     let s = small d fits in
     let f = fits.few in
     let from : min 255 (min cap e.from) ≡ e.from = omega arith in
     let to : min 255 (min cap e.to) ≡ e.to = omega arith in
-    let count : min 5 (length e.guards) ≡ length e.guards = omega arith in
+    let count : min 255 (min 256 (length e.guards)) ≡ length e.guards = omega arith in
     λ i. record { from = from i; to = to i; guards = guards-held d.head.clocks (omega arith) e.guards h r k i; count = count i; resets = resets-held d.head.clocks e.resets i }
 
-module _ (d : Doc) (fits : Fits d) (e : EdgeLine) (n : ℕ) where
-  pub edge-judged : edge_verdict (length d.places) (length d.edges) (edge_read d.head.clocks e n) ≡ verdict (edge_fault d e)
-  unfolding edge_verdict verdict_of gathered_guards edge_fault edge_known
+module _ (d : Doc) (fits : Fits d) (e : EdgeLine) where
+  pub edge-judged : edge_verdict (length d.places) (length d.edges) (held_edge d.head.clocks e) ≡ verdict (edge_fault d e)
+  unfolding edge_verdict verdict_of gathered edge_fault edge_known
   edge-judged =
       let s = small d fits in
       let f = fits.few in
@@ -136,12 +149,12 @@ module _ (d : Doc) (fits : Fits d) (e : EdgeLine) (n : ℕ) where
         resets-known d.head.clocks (omega arith) e.resets,
       ) refl
 
-  pub edge_filled : edge_fault d e ≡ none → put_edge (pattern_of d) (edge_from (edge_read d.head.clocks e n)) ≡ pattern_of (with_edge d e)
+  pub edge_filled : edge_fault d e ≡ none → put_edge (pattern_of d) (edge_from (held_edge d.head.clocks e)) ≡ pattern_of (with_edge d e)
   unfolding edge_fault edge_known
   edge_filled z =
       let c = clear (ltb (length d.edges) 32 && leb (length e.guards) 4) (all guard_in_range e.guards) (edge_known d.head.clocks (length d.places) e) z in
       let k = both (ltb (length d.edges) 32) (leb (length e.guards) 4) c.0 in
       let r = both (all guard_in_range e.guards) (edge_known d.head.clocks (length d.places) e) c.1 in
       let q = four (ltb e.from (length d.places)) (ltb e.to (length d.places)) (all (guard_known d.head.clocks) e.guards) (rising 0 d.head.clocks e.resets) r.1 in
-      ap (put_edge (pattern_of d)) (edge-held d fits e n (leb-true (length e.guards) 4 k.1) r.0 q.2 (ltb-true e.from (length d.places) q.0) (ltb-true e.to (length d.places) q.1))
+      ap (put_edge (pattern_of d)) (edge-held d fits e (leb-true (length e.guards) 4 k.1) r.0 q.2 (ltb-true e.from (length d.places) q.0) (ltb-true e.to (length d.places) q.1))
       ∙ edge-put d e (ltb-true (length d.edges) 32 k.0)

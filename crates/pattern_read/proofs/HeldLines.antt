@@ -5,6 +5,7 @@ use native.Mathlib.Numerals.{add-one}
 use mathlib.Core.Path.{◌≡◌, refl, sym, ap, ap₂, ◌∙◌}
 use mathlib.Core.List.{List, [], ◌∷◌, map, map-map, map-id}
 use mathlib.Core.Bool.{Bool, true, false, ◌&&◌, ◌||◌, and-true}
+use Rattle.std.proofs.Math.Bool.{and-false, and_assoc, or-true, or-false}
 use lib.Dec.{leb, ltb}
 use lib.ListN.{length, take, set, length-map}
 use lib.Seq.{take_all}
@@ -23,7 +24,8 @@ use Rattle.pattern_text.proofs.Tools.{both, by-test}
 use Rattle.text_scan.specs.Scan.{cap}
 use Rattle.line_lists.specs.declared.Resets.{Resets}
 use Rattle.line_parts.specs.Parts.{held_test, held_guard}
-use Rattle.line_lists.specs.Lists.{gathered_tests, gathered_guards}
+use Rattle.line_lists.specs.Lists.{gathered, gathered_guards}
+use Rattle.line_read.specs.Lines.{held_place}
 use Rattle.line_lists.specs.ResetList.{no_resets, add_reset, added}
 use Rattle.line_lists.proofs.Held.{min-leb, min-ltb, held-is}
 use Rattle.pattern_lines.specs.Turn.{place_from}
@@ -34,10 +36,6 @@ leb-min : (c k n : ℕ) → k ≤ c → leb k (min c n) ≡ leb k n
 leb-min c k n h = by-test (leb k n)
     (λ t. rw t (le-leb k (min c n) (omega (arith, leb-true k n t))))
     (λ t. rw t (lt-leb k (min c n) (omega (arith, leb-false k n t))))
-
-and-false : (a : Bool) → a && false ≡ false
-and-false true = refl
-and-false false = refl
 
 window : (l h : ℕ) → within (min cap l) 4_095 (min cap h) ≡ within l 4_095 h
 window l h = by-test (leb h 4_095)
@@ -50,13 +48,10 @@ header_held c k l h = rw (leb-min cap 1 c (omega arith), min-leb cap 8 c (omega 
 
 -- ---- tests and guards
 
-five : (n : ℕ) → ltb (min 5 n) 5 ≡ leb n 4
-five n = by-test (leb n 4)
-    (λ t. rw t (lt-ltb (min 5 n) 5 (omega (arith, leb-true n 4 t))))
-    (λ t. rw t (le-ltb (min 5 n) 5 (omega (arith, leb-false n 4 t))))
-
-pub few-held : (n : ℕ) → ltb (min 5 n) 5 ≡ leb n 4
-few-held = five
+pub few-held : (n : ℕ) → ltb (min 256 n) 5 ≡ leb n 4
+few-held n = by-test (leb n 4)
+    (λ t. rw t (lt-ltb (min 256 n) 5 (omega (arith, leb-true n 4 t))))
+    (λ t. rw t (le-ltb (min 256 n) 5 (omega (arith, leb-false n 4 t))))
 
 map_same : {A B : Type 0} (f g : A → B) (p q : A → Bool) → ((a : A) → p a ≡ true → q a ≡ true → f a ≡ g a) → (xs : List A) → all p xs ≡ true → all q xs ≡ true → map f xs ≡ map g xs
 map_same f g p q h [] e k = refl
@@ -83,24 +78,20 @@ guard-same clocks few x r k =
     λ i. record { sign = x.sign; clock = c i; bound = b i }
 
 -- a place's line without a fault
-pub place-held : (channels : ℕ) → channels ≤ 255 → (l : line.PlaceLine) → length l.tests ≤ 4 → all raw_in_range l.tests ≡ true → all (raw_known channels) l.tests ≡ true → place_from l.kind (gathered_tests channels (map test_of l.tests)) ≡ place_of l
-unfolding place_from gathered_tests place_of
+pub place-held : (channels : ℕ) → channels ≤ 255 → (l : line.PlaceLine) → length l.tests ≤ 4 → all raw_in_range l.tests ≡ true → all (raw_known channels) l.tests ≡ true → place_from (held_place channels l) ≡ place_of l
+unfolding place_from gathered place_of
 place-held channels few l n r k =
     let ts = map test_of l.tests in
     let m = length-map l.tests test_of in
     let same = map-map held_test test_of l.tests ∙ map_same (λ x. held_test (test_of x)) test_of raw_in_range (raw_known channels) (line_same channels few) l.tests r k in
-    let c : min 5 (length ts) ≡ length l.tests = omega arith in
+    let c : min 255 (min 256 (length ts)) ≡ length l.tests = omega arith in
     λ i. record { kind = l.kind; tests = pad 4 no_test ((ap (take 4) same ∙ take_all 4 ts (omega arith)) i); count = c i }
 
-pub guards-held : (clocks : ℕ) → clocks ≤ 255 → (gs : List Guard) → length gs ≤ 4 → all guard_in_range gs ≡ true → all (guard_known clocks) gs ≡ true → (gathered_guards clocks gs).guards ≡ pad 4 no_guard gs
-unfolding gathered_guards
+pub guards-held : (clocks : ℕ) → clocks ≤ 255 → (gs : List Guard) → length gs ≤ 4 → all guard_in_range gs ≡ true → all (guard_known clocks) gs ≡ true → (gathered_guards clocks gs).parts ≡ pad 4 no_guard gs
+unfolding gathered
 guards-held clocks few gs n r k = ap (pad 4 no_guard) (ap (take 4) (map_same held_guard (λ g. g) guard_in_range (guard_known clocks) (guard-same clocks few) gs r k ∙ map-id gs) ∙ take_all 4 gs n)
 
 -- ---- resets
-
-and_assoc : (a b c : Bool) → (a && b) && c ≡ a && (b && c)
-and_assoc true b c = refl
-and_assoc false b c = refl
 
 -- whether each is known, and above the one before it
 pub added-known : (clocks : ℕ) → clocks ≤ 255 → (s : Resets) (cs : List ℕ) → (added clocks s cs).known ≡ s.known && rising s.least clocks cs
@@ -112,18 +103,6 @@ added-known clocks few s (c ∷ cs) =
     (λ t. rw (min-ltb cap clocks c (omega arith), t, and-false (leb s.least (min cap c)), and-false (leb s.least c), and-false s.known) refl)
 
 -- a flag for each clock
-or-true : (a : Bool) → a || true ≡ true
-or-true true = refl
-or-true false = refl
-
-or_assoc : (a b c : Bool) → (a || b) || c ≡ a || (b || c)
-or_assoc true b c = refl
-or_assoc false b c = refl
-
-or-false : (a : Bool) → a || false ≡ a
-or-false true = refl
-or-false false = refl
-
 four : {a a' b b' c c' d d' : Bool} → a ≡ a' → b ≡ b' → c ≡ c' → d ≡ d' → a ∷ b ∷ c ∷ d ∷ [] ≡ a' ∷ b' ∷ c' ∷ d' ∷ []
 four p q r s = λ i. p i ∷ q i ∷ r i ∷ s i ∷ []
 

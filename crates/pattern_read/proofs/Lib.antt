@@ -1,5 +1,4 @@
 -- Laws: reading a pattern.
-pub mod Finishing
 pub mod HeldLines
 pub mod Cutting
 pub mod Filling

@@ -1,3 +1,2 @@
 -- Definitions: reading a pattern.
 pub mod Reading
-pub mod Finish

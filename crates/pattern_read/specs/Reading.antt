@@ -1,29 +1,29 @@
 -- What `read` answers (document 01, 'Read a pattern'): the answer of crate pattern_text's `read_of`, as the code hands it back,
--- and in document 01's numbers. The pattern beside a refusal is zeros throughout.
-use Rattle.std.specs.Prelude.{ℕ, ◌≡◌, ◌↔◌, true}
+-- and in document 01's numbers, where the pattern beside a refusal is zeros throughout.
+use Rattle.std.specs.Prelude.{ℕ, ◌≡◌, ◌↔◌, true, Result, Ok, Err}
 use Rattle.pattern.specs.declared.Pattern.{Pattern}
+use Rattle.pattern.specs.declared.Refusal.{Refusal}
 use Rattle.pattern.specs.declared.Refusal.TheVariants.{TextTooLong, BrokenForm, OutOfRange, TooMany, UnknownIndex}
 use Rattle.pattern.specs.Refusal.{number_of}
 use Rattle.pattern.specs.Sound.{no_pattern, sound_of}
 use Rattle.pattern_text.specs.Bytes.{Bytes}
 use Rattle.pattern_text.specs.Text.{Answer, accepted, refused, read_of, render_of}
 use Rattle.pattern_text.specs.Claims.{Outcome as Cause}
-use Rattle.pattern_read.specs.declared.Outcome.{Outcome}
-use Rattle.pattern_read.specs.declared.Outcome.TheVariants.{Accepted, Refused}
-use Rattle.pattern_read.specs.declared.PatternRead.{PatternRead}
 
 -- the answer by its cause
-abbrev pub reading_of : Answer → PatternRead
-reading_of (accepted p) = record { outcome = Accepted; pattern = p }
-reading_of (refused r) = record { outcome = Refused r; pattern = no_pattern }
+abbrev pub reading_of : Answer → Result Pattern Refusal
+reading_of (accepted p) = Ok p
+reading_of (refused r) = Err r
 
--- What an answer says: the refusal's number, 0 if there is none, and the pattern beside it.
-abbrev pub outcome_number : Outcome → ℕ
-outcome_number Accepted = 0
-outcome_number (Refused r) = number_of r
+-- The refusal's number, 0 if there is none.
+abbrev pub outcome_number : {A : Type 0} → Result A Refusal → ℕ
+outcome_number (Ok a) = 0
+outcome_number (Err r) = number_of r
 
-abbrev pub read_as : PatternRead → ℕ × Pattern
-read_as r = (outcome_number r.outcome, r.pattern)
+-- What an answer says: the number, and the pattern, zeros beside a refusal.
+abbrev pub read_as : Result Pattern Refusal → ℕ × Pattern
+read_as (Ok p) = (0, p)
+read_as (Err r) = (number_of r, no_pattern)
 
 -- What is due to a text: the number of its cause, and the pattern or zeros.
 abbrev pub due_to : Answer → ℕ × Pattern

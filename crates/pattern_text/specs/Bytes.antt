@@ -1,7 +1,8 @@
 -- Bytes, and reading from the front of them.
 use Rattle.std.specs.Prelude.{ℕ, ◌≡◌, List, [], ◌∷◌, Bool, true, not, eqb}
 use Prim.Native.Char.{code}
-use Prim.Native.String.{String, [] as nil, ◌∷◌ as ◌then◌}
+pub use Prim.Native.String.{String}
+use Prim.Native.String.{[] as nil, ◌∷◌ as ◌then◌}
 use Rattle.pattern.specs.Slots.{all}
 
 abbrev pub Bytes : Type 0

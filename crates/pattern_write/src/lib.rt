@@ -6,27 +6,20 @@ ghost use Rattle.pattern_write.specs.Written.{written_of, output_of, written_as,
 
 use pattern::{Pattern, Refusal};
 
-// How many bytes the text has, or why it was not written.
-#[derive(Clone, Copy)]
-pub enum Written {
-    Length(usize),
-    Refused(Refusal),
-}
-
-// The text is put into a buffer of 8,192 bytes first, where a sound pattern's text fits.
-pub fn write(p: Pattern, out: &mut [u8]) -> Written
+// How many bytes the text has. It is put into a buffer of 8,192 bytes first, where a sound pattern's text fits.
+pub fn write(p: Pattern, out: &mut [u8]) -> Result<usize, Refusal>
     ensures value { result ≡ written_of p (length out.old) }
     ensures result_value { written_as result ≡ written_numbers p (length out.old) }
     ensures out_after { out.new ≡ output_of p out.old }
 {
     if !pattern::sound(p) {
-        return Written::Refused(Refusal::UnsoundPattern);
+        return Err(Refusal::UnsoundPattern);
     }
     let mut text = [0u8; 8192];
-    let n = line_write::put_pattern(&mut text, p);
+    let n = line_write::put_pattern(&mut text, &p);
     if out.len() < n {
-        return Written::Refused(Refusal::OutputTooShort);
+        return Err(Refusal::OutputTooShort);
     }
     out[..n].copy_from_slice(&text[..n]);
-    Written::Length(n)
+    Ok(n)
 }

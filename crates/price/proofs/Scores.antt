@@ -1,7 +1,7 @@
 -- How large scores come: each tick brings at most one observation, of at most 8,000,000 in sum, and in margin none grows.
 use Prim.Native.Nat.{ℕ, zero, suc, ◌+◌, ◌^◌, ◌≤◌, ◌<◌}
 use native.Mathlib.Omega.{arith}
-use mathlib.Core.Path.{◌≡◌, refl, sym, ap, subst, ◌∙◌}
+use mathlib.Core.Path.{◌≡◌, refl, ap, subst, ◌∙◌}
 use mathlib.Core.List.{List, [], ◌∷◌, map}
 use mathlib.Core.Option.{Option, none, some}
 use mathlib.Core.Bool.{Bool, true, false, cond}
@@ -32,8 +32,7 @@ use Rattle.record.proofs.RecordLaws.{parts, length-ticks}
 use Rattle.record.proofs.PlaceLaws.{place-at-sound, margin-place-size, place-size}
 use Rattle.record.proofs.StepLaws.{can-parts}
 use Rattle.record.proofs.PriceLaws.{priced_parts}
-use Rattle.price.specs.declared.Priced.{Priced}
-use Rattle.price.specs.declared.Priced.TheVariants.{Score, Refused}
+use Rattle.std.specs.Prelude.{Result, Ok, Err}
 use Rattle.price.specs.Price.{steps_fit, scored, priced_of, largest_score, ScoresInRange}
 use Rattle.price_runs.proofs.RunLaws.{edge-at-sound}
 
@@ -149,10 +148,6 @@ far Sum n z l h = omega arith
 
 -- ---- what is answered
 
-abbrev IsScore : Priced → Type 0
-IsScore (Score w) = Unit
-IsScore (Refused r) = ⊥
-
 pub scores-in-range : ScoresInRange
 unfolding priced_of book_of
 scores-in-range p ds vs begin es ss w e =
@@ -175,18 +170,14 @@ scores-in-range p ds vs begin es ss w e =
         let s = subst (Sized p.weighing (length_of xs)) k.2 (run_sized p sound b (ticks-range p.channels ds vs r.values) begin xs k.0) in
         (s, far p.weighing (length_of xs) w (omega arith) s)
 
-    refused : {A : Type 0} (r : Refusal) → Refused r ≡ Score w → A
-    refused r e = absurd (subst IsScore (sym e) tt)
+    refused : {A : Type 0} (r : Refusal) → ◌≡◌ {A = Result ℤ Refusal} (Err r) (Ok w) → A
+    refused r e = cc
 
-    the_score : (v : ℤ) → Score v ≡ Score w → v ≡ w
-    the_score v e = ap worth e
-      where
-        worth : Priced → ℤ
-        worth (Score z) = z
-        worth (Refused r) = w
+    the_score : (v : ℤ) → ◌≡◌ {A = Result ℤ Refusal} (Ok v) (Ok w) → v ≡ w
+    the_score v e = cc
 
     by : (x y z : Bool) (o : Option ℤ) → sound_of p ≡ x → record_sound p.channels ds vs ≡ y → price_of p b begin xs ≡ o
-        → cond x (cond y (cond z (scored o) (Refused BrokenSteps)) (Refused BrokenRecord)) (Refused UnsoundPattern) ≡ Score w
+        → cond x (cond y (cond z (scored o) (Err BrokenSteps)) (Err BrokenRecord)) (Err UnsoundPattern) ≡ Ok w
         → (nat_abs w ≤ largest_score p.weighing (length_of xs)) × (nat_abs w < 2 ^ 54)
     by true true true (some v) f g q e = sized f g (q ∙ ap some (the_score v e))
     by true true true none f g q e = refused NotARun e

@@ -3,8 +3,9 @@ use Prim.Native.Nat.{ℕ, zero, suc, ◌+◌, ◌-◌, ◌*◌, ◌≤◌, ◌<�
 use native.Mathlib.Nat.{add-zero}
 use native.Mathlib.Omega.{arith}
 use mathlib.Core.Path.{◌≡◌, refl, sym, ap, ◌∙◌}
-use mathlib.Core.List.{List, [], ◌∷◌, map}
+use mathlib.Core.List.{List, [], ◌∷◌, map, zip_with}
 use mathlib.Core.Option.{Option, none, some}
+use Rattle.std.specs.Prelude.{Some, None}
 use mathlib.Core.Bool.{Bool, true, false, cond, ◌&&◌}
 use borrow.Author.Tests.{le-leb, lt-leb, leb-true, leb-false, ltb-true, eqb-true}
 use lib.Dec.{T, leb}
@@ -30,9 +31,8 @@ use Rattle.record.specs.Worth.{stay_worth, stay_worths, run_worth, price_of}
 use Rattle.price.specs.Price.{steps_fit}
 use Rattle.price_stays.specs.Walk.{ahead}
 use Rattle.price_runs.specs.Stand.{score_from, outcome, Held}
-use Rattle.price_runs.proofs.RunLaws.{steps-at}
-use Rattle.price.specs.Whole.{Found, start_of, Fit}
-use Rattle.record.proofs.ListLaws.{get_d_any}
+use Rattle.price.specs.Whole.{Found, stand_of, start_of, Fit}
+use Rattle.std.proofs.lemmas.List.{get_or_default}
 use Rattle.record.proofs.RecordLaws.{parts, part_sound, length-ticks, drop_pieces, ticks-from}
 use Rattle.record.proofs.PlaceLaws.{stays-worth-all}
 
@@ -129,6 +129,26 @@ steps ds begin es ss e =
     let c = both _ _ b.0 in
     record { same = eqb-true _ _ c.0; some_step = leb-true _ _ c.1; within = ltb-true _ _ a.1 }
 
+-- the first step, and the others
+steps_head : (es ss : List ℕ) → length es ≡ length ss → 1 ≤ length es
+    → steps_of es ss ≡ record { edge = get_or es 0 0; stay = get_or ss 0 0 } ∷ drop 1 (steps_of es ss)
+unfolding steps_of zip_with
+steps_head [] ss e h = absurd (omega arith)
+steps_head (a ∷ es) [] e h = absurd (omega arith)
+steps_head (a ∷ es) (b ∷ ss) e h = refl
+
+-- what comes of the steps where the run enters a start place, and where it does not
+where_started : (p : Pattern) (ds : List ℕ) (vs : List ℤ) (t : Bool) (s : Stand) (xs : List Step)
+    → outcome p ds vs (cond t (Some s) None) xs ≡ cond t (score_from p (ahead p.channels ds vs s.piece s.used) s.worth s.place s.clocks xs) none
+unfolding outcome
+where_started p ds vs true s xs = refl
+where_started p ds vs false s xs = refl
+
+-- who has started stands at the begin
+pub started : (t : Bool) (s r : Stand) → cond t (Some s) None ≡ Some r → r ≡ s
+started true s r e = cc
+started false s r e = cc
+
 -- what is left of a slice from a place on
 pub rest_of : {A : Type 0} (i : ℕ) (xs : List A) → take (length xs - i) (drop i xs) ≡ drop i xs
 rest_of i xs = take_all (length xs - i) (drop i xs) (omega (arith, length-drop i xs))
@@ -143,7 +163,7 @@ zero-at (suc (suc (suc (suc k)))) = refl
 module _ (p : Pattern) (ds : List ℕ) (vs : List ℤ) (begin : ℕ) (es ss : List ℕ) (h : Fit p ds vs begin es ss) (r : Begin) (f : Found ds begin r) where
   -- where the code stands at the begin, in the part of the record from the begin's piece on
   abbrev pub at_begin : Stand
-  at_begin = start_of p (get_or es 0 0) r.used (total ds - begin)
+  at_begin = stand_of p (get_or es 0 0) r.used (total ds - begin)
 
   pub book-long : length (book_of p.channels ds vs) ≡ total ds
   unfolding book_of
@@ -156,7 +176,7 @@ module _ (p : Pattern) (ds : List ℕ) (vs : List ℤ) (begin : ℕ) (es ss : Li
       let in-piece = f.inside in
       let below = f.below in
       let first : get_or (drop r.piece ds) 0 1 ≡ get_or ds r.piece 0 =
-      get_or-drop r.piece ds 0 1 ∙ ap (λ (i : ℕ). get_or ds i 1) (add-zero r.piece) ∙ get_d_any ds r.piece 1 0 in-piece in
+      get_or-drop r.piece ds 0 1 ∙ ap (λ (i : ℕ). get_or ds i 1) (add-zero r.piece) ∙ get_or_default ds r.piece 1 0 in-piece in
       record {
         sound = h.sound;
         kept = part_sound p.channels r.piece ds vs h.kept (omega arith);
@@ -166,13 +186,13 @@ module _ (p : Pattern) (ds : List ℕ) (vs : List ℤ) (begin : ℕ) (es ss : Li
         size = omega (arith, unit_size p.weighing);
       }
 
-  pub outcome-at-begin : outcome p (drop r.piece ds) (drop (r.piece * p.channels) vs) at_begin (steps_of es ss)
+  pub outcome-at-begin : outcome p (drop r.piece ds) (drop (r.piece * p.channels) vs) (start_of p (get_or es 0 0) r.used (total ds - begin)) (steps_of es ss)
       ≡ price_of p (book_of p.channels ds vs) begin (steps_of es ss)
-  unfolding outcome
   outcome-at-begin =
       let g = steps ds begin es ss h.steps in
       let same = g.same in
       let some_step = g.some_step in
       let within = g.within in
-      rw (steps-at es ss 0 same (omega arith), ← begin-ahead p.channels ds vs begin r f)
-      (sym (price-is p (book_of p.channels ds vs) begin (record { edge = get_or es 0 0; stay = get_or ss 0 0 }) (drop (0 + 1) (steps_of es ss)) (omega (arith, book-long))))
+      where_started p (drop r.piece ds) (drop (r.piece * p.channels) vs) (is_start (place_at p (edge_at p (get_or es 0 0)).from).kind) at_begin (steps_of es ss)
+      ∙ rw (steps_head es ss same (omega arith), ← begin-ahead p.channels ds vs begin r f)
+      (sym (price-is p (book_of p.channels ds vs) begin (record { edge = get_or es 0 0; stay = get_or ss 0 0 }) (drop 1 (steps_of es ss)) (omega (arith, book-long))))

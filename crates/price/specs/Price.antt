@@ -1,14 +1,13 @@
 -- The operation 'Price a run' (document 01, 'Operations and refusals'): 7, 8, 9, 10 in this order, else the score.
-use Rattle.std.specs.Prelude.{ℕ, ◌*◌, ◌^◌, ◌≤◌, ◌<◌, ◌≡◌, List, Bool, cond, ◌&&◌, eqb, leb, ltb, length, ℤ, pos, nat_abs}
+use Rattle.std.specs.Prelude.{ℕ, ◌*◌, ◌^◌, ◌≤◌, ◌<◌, ◌≡◌, List, Bool, cond, ◌&&◌, eqb, leb, ltb, length, ℤ, pos, nat_abs, Result, Ok, Err}
 use Rattle.std.proofs.Math.Option.{Option, none, some}
 use Rattle.weighting.specs.declared.Weighing.{Weighing}
 use Rattle.weighting.specs.declared.Weighing.TheVariants.{Margin, Sum}
 use Rattle.pattern.specs.declared.Pattern.{Pattern}
+use Rattle.pattern.specs.declared.Refusal.{Refusal}
 use Rattle.pattern.specs.declared.Refusal.TheVariants.{UnsoundPattern, BrokenRecord, BrokenSteps, NotARun}
 use Rattle.pattern.specs.Sound.{sound_of}
 use Rattle.pattern.specs.Refusal.{number_of}
-use Rattle.price.specs.declared.Priced.{Priced}
-use Rattle.price.specs.declared.Priced.TheVariants.{Score, Refused}
 use Rattle.record.specs.Record.{total, record_sound, book_of}
 use Rattle.record.specs.Run.{length_of, steps_of}
 use Rattle.record.specs.Worth.{price_of}
@@ -19,24 +18,24 @@ steps_fit ds begin es ss =
     eqb (length es) (length ss) && leb 1 (length es) && leb (length es) 4_095 && ltb begin (total ds)
 
 -- "10: they are not a run, or pass the record's end."
-abbrev pub scored : Option ℤ → Priced
-scored (some w) = Score w
-scored none = Refused NotARun
+abbrev pub scored : Option ℤ → Result ℤ Refusal
+scored (some w) = Ok w
+scored none = Err NotARun
 
-unfoldable pub priced_of : Pattern → (durations : List ℕ) → (values : List ℤ) → (begin : ℕ) → (edges stays : List ℕ) → Priced
+unfoldable pub priced_of : Pattern → (durations : List ℕ) → (values : List ℤ) → (begin : ℕ) → (edges stays : List ℕ) → Result ℤ Refusal
 priced_of p ds vs begin es ss =
     cond (sound_of p)
     (cond (record_sound p.channels ds vs)
     (cond (steps_fit ds begin es ss)
     (scored (price_of p (book_of p.channels ds vs) begin (steps_of es ss)))
-    (Refused BrokenSteps))
-    (Refused BrokenRecord))
-    (Refused UnsoundPattern)
+    (Err BrokenSteps))
+    (Err BrokenRecord))
+    (Err UnsoundPattern)
 
 -- What an answer says: the refusal's number (0 if there is none), and the score, zero beside a refusal.
-abbrev pub priced_as : Priced → ℕ × ℤ
-priced_as (Score w) = (0, w)
-priced_as (Refused r) = (number_of r, pos 0)
+abbrev pub priced_as : Result ℤ Refusal → ℕ × ℤ
+priced_as (Ok w) = (0, w)
+priced_as (Err r) = (number_of r, pos 0)
 
 abbrev pub scored_as : Option ℤ → ℕ × ℤ
 scored_as (some w) = (0, w)
@@ -68,5 +67,5 @@ largest_score Sum n = 8_000_000 * n
 abbrev pub ScoresInRange : Type 0
 ScoresInRange =
     (p : Pattern) (ds : List ℕ) (vs : List ℤ) (begin : ℕ) (es ss : List ℕ) (w : ℤ)
-    → priced_of p ds vs begin es ss ≡ Score w
+    → priced_of p ds vs begin es ss ≡ Ok w
     → (nat_abs w ≤ largest_score p.weighing (length_of (steps_of es ss))) × (nat_abs w < 2 ^ 54)

@@ -1,10 +1,9 @@
 -- How the code goes through a whole run, from its begin to its end place. No promise of a public operation speaks of this.
-use Rattle.std.specs.Prelude.{ℕ, ◌+◌, ◌<◌, ◌≡◌, List, Bool, true, cond, length, take, get_or, ℤ}
-use Rattle.std.proofs.Math.Option.{Option, none, some}
+use Rattle.std.specs.Prelude.{ℕ, ◌+◌, ◌<◌, ◌≡◌, List, true, cond, length, take, get_or, ℤ, Option, Some, None}
 use Rattle.weighting.proofs.Weightings.{weighting_of}
 use Rattle.pattern.specs.declared.Pattern.{Pattern}
 use Rattle.pattern.specs.InUse.{place_at, edge_at}
-use Rattle.pattern.specs.Kinds.{is_start, is_end}
+use Rattle.pattern.specs.Kinds.{is_start}
 use Rattle.pattern.specs.Clocks.{zero_clocks}
 use Rattle.pattern.specs.Sound.{sound_of}
 use Rattle.record.specs.Record.{total, record_sound}
@@ -18,11 +17,10 @@ pub record Found (durations : List ℕ) (begin : ℕ) (r : Begin) : Type 0 where
   pub below : r.used < get_or durations r.piece 0
   pub is : begin ≡ total (take r.piece durations) + r.used
 
--- At the begin: "It enters a start place at b, all clocks 0."
-abbrev pub start_of : Pattern → (edge used left : ℕ) → Stand
-start_of p edge used left =
+-- Where the run stands at the begin, "all clocks 0".
+abbrev pub stand_of : Pattern → (edge used left : ℕ) → Stand
+stand_of p edge used left =
     record {
-      going = is_start (place_at p (edge_at p edge).from).kind;
       place = (edge_at p edge).from;
       clocks = zero_clocks;
       piece = 0;
@@ -31,9 +29,10 @@ start_of p edge used left =
       worth = (weighting_of p.weighing).unit;
     }
 
--- At the end: "The last edge enters an end place at e exactly."
-abbrev pub score_at : Pattern → (going : Bool) → (place : ℕ) → (worth : ℤ) → Option ℤ
-score_at p going k a = cond going (cond (is_end (place_at p k).kind) (some a) none) none
+-- "It enters a start place at b"
+abbrev pub start_of : Pattern → (edge used left : ℕ) → Option Stand
+start_of p edge used left =
+    cond (is_start (place_at p (edge_at p edge).from).kind) (Some (stand_of p edge used left)) None
 
 -- Nothing is refused with 7, 8 or 9.
 pub record Fit (p : Pattern) (durations : List ℕ) (values : List ℤ) (begin : ℕ) (edges stays : List ℕ) : Type 0 where

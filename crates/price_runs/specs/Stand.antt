@@ -1,5 +1,7 @@
 -- How the code goes through a run, step by step. No promise of a public operation speaks of this.
 use Rattle.std.specs.Prelude.{ℕ, ◌+◌, ◌*◌, ◌^◌, ◌≤◌, ◌<◌, ◌≡◌, List, [], ◌∷◌, ◌++◌, map, Bool, true, cond, ◌&&◌, eqb, leb, length, take, drop, ℤ, nat_abs}
+use Rattle.std.specs.Prelude as rust
+use Rattle.std.specs.Prelude.{Some, None, IfSome}
 use Rattle.std.proofs.Math.Option.{Option, none, some}
 use Rattle.weighting.specs.Weighting.{combine_from}
 use Rattle.weighting.proofs.Weightings.{weighting_of}
@@ -36,12 +38,10 @@ score_from p b a k cs (x ∷ xs) =
     xs)
     none
 
--- The same from where the code stands.
-unfoldable pub outcome : Pattern → (durations : List ℕ) → (values : List ℤ) → Stand → List Step → Option ℤ
-outcome p ds vs s xs =
-    cond s.going
-    (score_from p (ahead p.channels ds vs s.piece s.used) s.worth s.place s.clocks xs)
-    none
+-- The same from where the code stands, if the run goes on.
+unfoldable pub outcome : Pattern → (durations : List ℕ) → (values : List ℤ) → rust.Option Stand → List Step → Option ℤ
+outcome p ds vs None xs = none
+outcome p ds vs (Some s) xs = score_from p (ahead p.channels ds vs s.piece s.used) s.worth s.place s.clocks xs
 
 -- What holds between the steps. No clock is past the ticks so far, and each tick so far brought at most one observation.
 pub record Held (p : Pattern) (durations : List ℕ) (values : List ℤ) (s : Stand) : Type 0 where
@@ -52,18 +52,13 @@ pub record Held (p : Pattern) (durations : List ℕ) (values : List ℤ) (s : St
   pub clocks : (k : ℕ) → clock_at s.clocks k + s.left ≤ 2_147_483_647
   pub size : nat_abs s.worth + 8_000_000 * s.left ≤ 2 ^ 60
 
--- A step can be made from where the code stands, and the record has its ticks.
-pub record Able (p : Pattern) (s : Stand) (x : Step) : Type 0 where
-  pub going : s.going ≡ true
-  pub can : can_step p s.place s.clocks x ≡ true
-  pub fits : x.stay ≤ s.left
-
--- From s to r by a step, made or not: the outcome of the steps that follow is that of all steps from s.
-pub record Stepped (p : Pattern) (durations : List ℕ) (values : List ℤ) (s : Stand) (x : Step) (r : Stand) : Type 0 where
-  pub held : Held p durations values r
-  pub same : (xs : List Step) → outcome p durations values r xs ≡ outcome p durations values s (x ∷ xs)
+-- From s by a step: to r if it can be made, and r is none if it cannot. The outcome of the steps that follow is that of all steps
+-- from s.
+pub record Stepped (p : Pattern) (durations : List ℕ) (values : List ℤ) (s : Stand) (x : Step) (r : rust.Option Stand) : Type 0 where
+  pub held : IfSome r (Held p durations values)
+  pub same : (xs : List Step) → outcome p durations values r xs ≡ outcome p durations values (Some s) (x ∷ xs)
 
 -- The same by many steps.
-pub record Ran (p : Pattern) (durations : List ℕ) (values : List ℤ) (s : Stand) (xs : List Step) (r : Stand) : Type 0 where
-  pub held : Held p durations values r
-  pub same : (ys : List Step) → outcome p durations values r ys ≡ outcome p durations values s (xs ++ ys)
+pub record Ran (p : Pattern) (durations : List ℕ) (values : List ℤ) (s : Stand) (xs : List Step) (r : rust.Option Stand) : Type 0 where
+  pub held : IfSome r (Held p durations values)
+  pub same : (ys : List Step) → outcome p durations values r ys ≡ outcome p durations values (Some s) (xs ++ ys)

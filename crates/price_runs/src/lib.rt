@@ -1,20 +1,20 @@
 // A run, step by step.
 #![tactic(auto)]
 
-ghost use Rattle.std.specs.Prelude.{◌≡◌, length};
+ghost use Rattle.std.specs.Prelude.{◌≡◌};
 ghost use Rattle.pattern.specs.Clocks.{later};
-ghost use Rattle.record.specs.Run.{clocks_after, steps_of};
-ghost use Rattle.price_runs.specs.Stand.{Room, can_leave, Held, Able, Stepped, Ran};
+ghost use Rattle.record.specs.Run.{steps_of};
+ghost use Rattle.price_runs.specs.Stand.{Room, can_leave, Held, Stepped, Ran};
 
-use pattern::clocks::{after_resets, guards_hold};
+use pattern::clocks::{after_resets, guards_hold, in_use};
 use pattern::{Edge, Pattern};
 use price_stays::{Walk, stay_in};
+use record::Record;
 
-// Where a run stands between two steps, if it goes on: in a place just entered, with the clocks as they are then; in a
-// piece, of which some ticks are used; the ticks left of the record; the worth so far.
+// Where a run that goes on stands between two steps: in a place just entered, with the clocks as they are then; in a piece, of
+// which some ticks are used; the ticks left of the record; the worth so far.
 #[derive(Clone, Copy)]
 pub struct Stand {
-    pub going: bool,
     pub place: u8,
     pub clocks: [u32; 4],
     pub piece: usize,
@@ -28,12 +28,7 @@ fn grown(clocks: [u32; 4], stay: u32) -> [u32; 4]
     requires { Room clocks stay }
     ensures { result ≡ later stay clocks }
 {
-    [
-        clocks[0] + stay,
-        clocks[1] + stay,
-        clocks[2] + stay,
-        clocks[3] + stay,
-    ]
+    std::array::from_fn(|k| clocks[k] + stay)
 }
 
 // Whether the edge can be taken out of the place after the stay, the clocks having grown with it.
@@ -43,96 +38,55 @@ fn can_leave(e: Edge, place: u8, stay: u32, clocks: [u32; 4]) -> bool
     (e.from == place) & (1 <= stay) & guards_hold(e, clocks)
 }
 
-// A step that can be made: the stay, then the edge, which leaves the clocks as they are given.
-fn take_step(
-    p: Pattern,
-    durations: &[u32],
-    values: &[i32],
-    s: Stand,
-    edge: u32,
-    stay: u32,
-    clocks: [u32; 4],
-) -> Stand
-    requires held { Held p durations.now values.now s }
-    requires able { Able p s (record { edge = edge; stay = stay }) }
-    requires clocks_value { clocks ≡ clocks_after p s.clocks (record { edge = edge; stay = stay }) }
-    ensures { Stepped p durations.now values.now s
+// One step, if it can be made and the record has its ticks. The guards are tried on the clocks as the stay leaves them; the
+// resets come after.
+// What is held is about the pattern and the lent record, too: no type of a stand alone could say it.
+fn step(p: Pattern, lent: Record, s: Stand, edge: u32, stay: u32) -> Option<Stand>
+    requires { Held p lent.durations.now lent.values.now s }
+    ensures { Stepped p lent.entry.durations.now lent.entry.values.now s
         (record { edge = edge; stay = stay }) result }
 {
-    let k = edge as usize;
-    let e = p.edges[k];
-    let i = e.from as usize;
-    let l = p.places[i];
-    let w = p.weighing;
+    if s.left < stay {
+        return None;
+    }
+    let e = *in_use(&p.edges, p.edgecount).get(edge as usize)?;
+    let clocks = grown(s.clocks, stay);
+    if !can_leave(e, s.place, stay, clocks) {
+        return None;
+    }
     let walk = Walk {
         piece: s.piece,
         used: s.used,
         left: stay,
         worth: s.worth,
     };
-    let there = stay_in(w, l, p.channels as usize, durations, values, walk);
-    Stand {
-        going: true,
+    let there = stay_in(
+        p.weighing,
+        p.places[usize::from(e.from)],
+        usize::from(p.channels),
+        lent,
+        walk,
+    );
+    let next = Stand {
         place: e.to,
-        clocks: clocks,
+        clocks: after_resets(e, clocks),
         piece: there.piece,
         used: there.used,
         left: s.left - stay,
         worth: there.worth,
-    }
+    };
+    Some(next)
 }
 
-// One step, if it can be made and the record has its ticks. The guards are tried on the clocks as the stay leaves them; the
-// resets come after.
-fn step(p: Pattern, durations: &[u32], values: &[i32], s: Stand, edge: u32, stay: u32) -> Stand
-    requires { Held p durations.now values.now s }
-    ensures { Stepped p durations.now values.now s
-        (record { edge = edge; stay = stay }) result }
-{
-    let c = s.clocks;
-    let k = edge as usize;
-    if s.going {
-        if stay <= s.left {
-            if k < (p.edgecount as usize) {
-                let e = p.edges[k];
-                let ticked = grown(c, stay);
-                let reset = after_resets(e, ticked);
-                if can_leave(e, s.place, stay, ticked) {
-                    return take_step(p, durations, values, s, edge, stay, reset);
-                }
-            }
-        }
-    }
-    Stand {
-        going: false,
-        place: s.place,
-        clocks: c,
-        piece: s.piece,
-        used: s.used,
-        left: s.left,
-        worth: s.worth,
-    }
-}
-
-// Step after step.
-pub fn run(
-    p: Pattern,
-    durations: &[u32],
-    values: &[i32],
-    s: Stand,
-    edges: &[u32],
-    stays: &[u32],
-) -> Stand
-    requires held { Held p durations.now values.now s }
-    requires edges_len { length edges.now ≡ length stays.now }
-    ensures { Ran p durations.now values.now s
-        (steps_of edges.now stays.now) result }
+// Step after step, if each can be made.
+// Held as in `step`; edges and stays are two slices, as a host in C lends them.
+pub fn run(p: Pattern, lent: Record, s: Stand, edges: &[u32], stays: &[u32]) -> Option<Stand>
+    requires { Held p lent.durations.now lent.values.now s }
+    ensures { Ran p lent.entry.durations.now lent.entry.values.now s (steps_of edges.now stays.now) result }
 {
     let mut at = s;
-    let mut i: usize = 0;
-    while i < edges.len() {
-        at = step(p, durations, values, at, edges[i], stays[i]);
-        i += 1;
+    for (edge, stay) in edges.iter().zip(stays) {
+        at = step(p, lent, at, *edge, *stay)?;
     }
-    at
+    Some(at)
 }

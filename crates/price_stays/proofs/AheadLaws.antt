@@ -12,7 +12,7 @@ use Rattle.pattern.specs.declared.Place.{Place}
 use Rattle.pattern.specs.Distance.{Sample}
 use Rattle.record.specs.Record.{Book, ticks_of, pieces_of, sample_at}
 use Rattle.record.specs.Joined.{agrees, joined, fresh_after}
-use Rattle.record.proofs.ListLaws.{drop-replicate, take-replicate}
+use Rattle.std.proofs.lemmas.List.{drop-replicate, take-replicate}
 use Rattle.record.proofs.JoinedLaws.{joined_fresh, fresh_same, agrees-self}
 use Rattle.record.proofs.RecordLaws.{drop_pieces, piece-at}
 use Rattle.price_stays.specs.Walk.{ahead, new_to, joins_to}
@@ -43,7 +43,7 @@ module _ (n : ℕ) (ds : List ℕ) (vs : List ℤ) where
       let t = ticks_of (drop (suc i) (pieces_of n ds vs)) in
       rw (piece-at n i ds vs h)
       (drop-append-le u (replicate d s) t (let e = length-replicate d s in omega arith)
-      ∙ ap (λ (b : Book). b ++ t) (drop-replicate u d s k))
+      ∙ ap (λ (b : Book). b ++ t) (drop-replicate u d s))
 
   pub ahead-on : (i u m : ℕ) → drop m (ahead n ds vs i u) ≡ ahead n ds vs i (u + m)
   unfolding ahead

@@ -24,7 +24,8 @@ use Rattle.record.specs.Record.{sample_at}
 use Rattle.price_stays.specs.Walk.{ahead, new_to, joins_to, seen_at, with_piece, Observes, Walks, to_come, Turned, Stayed}
 use Rattle.price_stays.proofs.AheadLaws.{new-nothing, new_stretch}
 use Rattle.price_stays.proofs.AheadLaws.{ahead-on, ahead-next, ahead-take, ahead-length, ahead_none}
-use Rattle.record.proofs.ListLaws.{all_take, all_drop, get_d_any}
+use Rattle.record.proofs.ListLaws.{all_take, all_drop}
+use Rattle.std.proofs.lemmas.List.{get_or_default}
 use Rattle.record.proofs.RecordLaws.{sample-within, parts, lasts-at}
 
 -- ---- over plain lists
@@ -61,7 +62,7 @@ module _ (w : Weighing) (l : Place) (n : ℕ) (ds : List ℕ) (vs : List ℤ) (f
           absurd (omega (arith, h.enough))
 
   pub below : s.used < get_or ds s.piece 0
-  below = let e = get_d_any ds s.piece 0 1 inside in omega (arith, h.stands.below)
+  below = let e = get_or_default ds s.piece 0 1 inside in omega (arith, h.stands.below)
 
   -- the worth once the piece is observed
   unfoldable pub next : ℤ
@@ -101,7 +102,7 @@ module _ (w : Weighing) (l : Place) (n : ℕ) (ds : List ℕ) (vs : List ℤ) (f
       let nothing : new_to l o (take 0 (ahead n ds vs s.piece (s.used + s.left))) ≡ new_to l (some x) (take 0 (drop s.left B)) = new-nothing l o ∙ sym (new-nothing l (some x)) in
       let all_of : s.left + 0 ≡ s.left = omega arith in
       record {
-        stands = record { inside = omega (arith, inside); below = let e = get_d_any ds s.piece 0 1 inside in omega arith };
+        stands = record { inside = omega (arith, inside); below = let e = get_or_default ds s.piece 0 1 inside in omega arith };
         onward = h.onward;
         less = omega arith;
         rest = sym (ahead-on n ds vs s.piece s.used s.left);

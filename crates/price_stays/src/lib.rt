@@ -2,12 +2,12 @@
 #![tactic(auto)]
 
 ghost use Rattle.std.specs.Prelude.{◌≡◌, ◌+◌, ◌*◌, ◌≤◌, ◌<◌, length};
-ghost use Rattle.record.specs.Record.{sample_at};
-ghost use Rattle.price_stays.specs.Walk.{seen_at, joins_to, with_piece, Observes, Walks, Turned, Stayed};
+ghost use Rattle.price_stays.specs.Walk.{Walks, Stayed};
+ghost use Rattle.price_stays.specs.Within.{sample_in, joins_in, worth_in, ObservesIn, WalksIn, TurnedIn};
 
 use pattern::Place;
 use pattern::distance::place_worth;
-use record::rules::least;
+use record::Record;
 use record::samples::agree_in;
 use weighting::{Weighing, combine};
 
@@ -20,95 +20,93 @@ pub struct Walk {
     pub worth: i64,
 }
 
-// Whether the piece is one with the piece before it in the place, in a stay that began in the piece `first`.
-fn joins(l: Place, channels: usize, values: &[i32], first: usize, piece: usize) -> bool
-    requires { piece * channels + channels ≤ length values.now }
-    ensures { result ≡ joins_to l (seen_at channels values.now first piece)
-        (sample_at channels values.now piece) }
-{
-    if first < piece {
-        let before = (piece - 1) * channels;
-        let at = piece * channels;
-        let past = at + channels;
-        agree_in(l, &values[before..at], &values[at..past])
-    } else {
-        false
-    }
+// What is the same throughout a stay; `first` is the piece that it began in.
+#[derive(Clone, Copy)]
+struct Stay<'a> {
+    weighing: Weighing,
+    place: Place,
+    channels: usize,
+    lent: Record<'a>,
+    first: usize,
 }
 
-// The worth once the piece is observed too.
-fn observe(
-    w: Weighing,
-    l: Place,
-    channels: usize,
-    values: &[i32],
-    first: usize,
-    piece: usize,
-    worth: i64,
-) -> i64
-    requires { Observes w l channels values.now piece worth }
-    ensures { result ≡ with_piece w l channels values.now first piece worth }
-{
-    if joins(l, channels, values, first, piece) {
-        worth
-    } else {
-        let at = piece * channels;
-        let past = at + channels;
-        combine(w, worth, place_worth(w, l, &values[at..past]))
+impl<'a> Stay<'a> {
+    // The values of a piece.
+    fn sample(&self, piece: usize) -> &[i32]
+        requires { piece * self.now.channels + self.now.channels ≤ length self.now.lent.values.now }
+        ensures { result.now ≡ sample_in self.now piece }
+    {
+        let at = piece * self.channels;
+        &self.lent.values[at..at + self.channels]
     }
-}
 
-// The stay goes on through one piece: to its end, or to the stay's. So a piece counts once at the most, however long it is.
-fn through(
-    w: Weighing,
-    l: Place,
-    channels: usize,
-    durations: &[u32],
-    values: &[i32],
-    first: usize,
-    s: Walk,
-) -> Walk
-    requires walks { Walks w l channels durations.now values.now first s }
-    requires left_nonzero { 0 < s.left }
-    ensures { Turned w l channels durations.now values.now first s result }
-{
-    let piece = s.piece;
-    let open = durations[piece] - s.used;
-    let taken = least(s.left, open);
-    let worth = observe(w, l, channels, values, first, piece, s.worth);
-    if taken < open {
-        Walk {
-            piece: piece,
-            used: s.used + taken,
-            left: s.left - taken,
-            worth: worth,
-        }
-    } else {
-        Walk {
-            piece: piece + 1,
-            used: 0,
-            left: s.left - taken,
-            worth: worth,
+    // Whether the piece is one with the piece before it in the place.
+    fn joins(&self, piece: usize) -> bool
+        requires { piece * self.now.channels + self.now.channels ≤ length self.now.lent.values.now }
+        ensures { result ≡ joins_in self.now piece }
+    {
+        self.first < piece && agree_in(self.place, self.sample(piece - 1), self.sample(piece))
+    }
+
+    // The worth once the piece is observed too.
+    fn observe(&self, piece: usize, worth: i64) -> i64
+        requires { ObservesIn self.now piece worth }
+        ensures { result ≡ worth_in self.now piece worth }
+    {
+        if self.joins(piece) {
+            worth
+        } else {
+            combine(
+                self.weighing,
+                worth,
+                place_worth(self.weighing, self.place, self.sample(piece)),
+            )
         }
     }
+
+    // The stay goes on through one piece: to its end, or to the stay's. So a piece counts once at the most, however long it is.
+    fn through(&self, s: Walk) -> Walk
+        requires walks { WalksIn self.now s }
+        requires left_nonzero { 0 < s.left }
+        ensures { TurnedIn self.now s result }
+    {
+        let open = self.lent.durations[s.piece] - s.used;
+        let taken = s.left.min(open);
+        let left = s.left - taken;
+        let worth = self.observe(s.piece, s.worth);
+        if taken < open {
+            Walk {
+                used: s.used + taken,
+                left,
+                worth,
+                ..s
+            }
+        } else {
+            Walk {
+                piece: s.piece + 1,
+                used: 0,
+                left,
+                worth,
+            }
+        }
+    }
 }
 
-// The whole stay.
-pub fn stay_in(
-    w: Weighing,
-    l: Place,
-    channels: usize,
-    durations: &[u32],
-    values: &[i32],
-    s: Walk,
-) -> Walk
-    requires { Walks w l channels durations.now values.now s.piece s }
-    ensures { Stayed w l channels durations.now values.now s result }
+// The whole stay. A turn takes what ticks the piece has left, so no `for` counts them.
+pub fn stay_in(weighing: Weighing, place: Place, channels: usize, lent: Record, s: Walk) -> Walk
+    requires { Walks weighing place channels lent.durations.now lent.values.now s.piece s }
+    ensures { Stayed weighing place channels lent.entry.durations.now lent.entry.values.now s result }
 {
-    let first = s.piece;
+    let stay = Stay {
+        weighing,
+        place,
+        channels,
+        lent,
+        first: s.piece,
+    };
     let mut at = s;
     while 0 < at.left {
-        at = through(w, l, channels, durations, values, first, at);
+        at = stay.through(at);
     }
     at
 }

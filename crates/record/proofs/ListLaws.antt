@@ -1,4 +1,4 @@
--- Laws of lists that the kit and `pattern` lack: tests of all, what is read with one default or another, repeats.
+-- Laws of lists that the kit and `pattern` lack: tests of all of a list's elements.
 use Prim.Native.Nat.{ℕ, zero, suc, ◌-◌, ◌≤◌, ◌<◌}
 use native.Mathlib.Omega.{arith}
 use mathlib.Core.Path.{◌≡◌, refl, ap}
@@ -24,19 +24,3 @@ module _ {A : Type 0} where
   all-at f [] i d e h = absurd (omega arith)
   all-at f (x ∷ xs) zero d e h = (both (f x) (all f xs) e).0
   all-at f (x ∷ xs) (suc i) d e h = all-at f xs i d (both (f x) (all f xs) e).1 (omega arith)
-
-  pub get_d_any : (xs : List A) (i : ℕ) (a b : A) → i < length xs → get_or xs i a ≡ get_or xs i b
-  get_d_any [] i a b h = absurd (omega arith)
-  get_d_any (x ∷ xs) zero a b h = refl
-  get_d_any (x ∷ xs) (suc i) a b h = get_d_any xs i a b (omega arith)
-
-  pub drop-replicate : (u d : ℕ) (a : A) → u ≤ d → drop u (replicate d a) ≡ replicate (d - u) a
-  drop-replicate zero d a h = let e : d - 0 ≡ d = omega arith in rw e
-  drop-replicate (suc u) zero a h = absurd (omega arith)
-  drop-replicate (suc u) (suc d) a h =
-      let e : suc d - suc u ≡ d - u = omega arith in rw e (drop-replicate u d a (omega arith))
-
-  pub take-replicate : (m d : ℕ) (a : A) → m ≤ d → take m (replicate d a) ≡ replicate m a
-  take-replicate zero d a h = refl
-  take-replicate (suc m) zero a h = absurd (omega arith)
-  take-replicate (suc m) (suc d) a h = ap (◌∷◌ a) (take-replicate m d a (omega arith))

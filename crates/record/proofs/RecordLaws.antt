@@ -10,6 +10,8 @@ use lib.Dec.{eqb, leb, ltb}
 use lib.ListN.{length, take, drop, get_or, replicate, length-append, length-replicate, length-drop}
 use lib.Seq.{drop-drop, drop-append-add, take_all}
 use lib.IntN.{ℤ}
+use Rattle.std.specs.Prelude.{sum}
+use Rattle.std.proofs.lemmas.List.Sums.{sum_by-cons}
 use Rattle.pattern.specs.Slots.{all}
 use Rattle.pattern.specs.Distance.{Sample}
 use Rattle.pattern.proofs.ListLaws.{take_more}
@@ -18,6 +20,11 @@ use Rattle.record.specs.Record.{ticks_of, pieces_of, sample_at, total, value_in_
 use Rattle.record.proofs.ListLaws.{all_drop}
 
 -- ---- totals
+
+pub total_is : (ds : List ℕ) → total ds ≡ sum ds
+unfolding total
+total_is [] = refl
+total_is (d ∷ ds) = rw (sum_by-cons (λ (n : ℕ). n) d ds) (ap (◌+◌ d) (total_is ds))
 
 pub total-append : (a b : List ℕ) → total (a ++ b) ≡ total a + total b
 unfolding total
@@ -39,10 +46,6 @@ before-end ds begin i u h e = by (ltb i (length ds)) refl
     by false k = let a = ap total (take_all i ds (ltb-false i (length ds) k)) in absurd (omega arith)
 
 -- ---- places of samples among the values
-
-pub one-before : (i n : ℕ) → 0 < i → (i - 1) * n + n ≡ i * n
-one-before zero n h = absurd (omega arith)
-one-before (suc i) n h = let e : suc i - 1 ≡ i = omega arith in rw (e, suc-mul i n)
 
 pub sample-within : (i m n : ℕ) → i < m → i * n + n ≤ m * n
 sample-within i m n h = rw (← suc-mul i n) (mul-le-mul_right n h)

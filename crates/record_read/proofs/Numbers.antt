@@ -10,12 +10,12 @@ use Rattle.pattern.specs.declared.Refusal.TheVariants.{TextTooLong, BrokenRecord
 use Rattle.record_text.specs.Piece.{RawPiece}
 use Rattle.record_text.specs.Text.{read_record, pieces_sound, pieces_refusal, record_refusal}
 use Rattle.record_read.specs.Check.{checked_of, checked_as, pieces_number, check_number, CheckNumbers}
-use Rattle.record_read.specs.declared.Checked.TheVariants.{Refused}
+use Rattle.std.specs.Prelude.{Err}
 use Rattle.pattern.specs.Refusal.{number_of}
 use borrow.Author.Tests.{lt-ltb}
 
 -- over 16,384 bytes is 1, before all else
-pub long_refused : (n : ℕ) (t : List ℕ) → 16_384 < length t → Refused TextTooLong ≡ checked_of (record_refusal n t)
+pub long_refused : (n : ℕ) (t : List ℕ) → 16_384 < length t → Err TextTooLong ≡ checked_of (record_refusal n t)
 unfolding record_refusal
 long_refused n t h = rw (lt-ltb 16_384 (length t) h) refl
 

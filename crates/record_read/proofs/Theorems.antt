@@ -17,7 +17,7 @@ use Rattle.pattern_text.specs.Bytes.{Bytes, Reading, got, broken}
 use Rattle.pattern_text.specs.Form.{◌◂◌, write_many, many}
 use Rattle.pattern_text.specs.Text.{pad}
 use Rattle.pattern_text.proofs.Tools.{both}
-use Rattle.text_scan.specs.Scan.{end_of, held}
+use Rattle.text_scan.specs.Scan.{held_integer}
 use Rattle.record.specs.Record.{total, value_in_range, record_sound}
 use Rattle.record.proofs.RecordLaws.{parts}
 use Rattle.record_text.specs.Piece.{RawPiece, values_in, piece_line}
@@ -26,7 +26,7 @@ use Rattle.record_text.specs.Claims.{Outcome, long, formless, unsound, sound}
 use Rattle.record_text.proofs.LineLaws.{ended-faithful, records, render_append, render_long}
 use Rattle.record_text.proofs.Theorems.{refusals_exact}
 use Rattle.line_lists.proofs.Held.{held-is}
-use Rattle.record_read.specs.Line.{limit, kept_values, piece_in, piece_at}
+use Rattle.record_read.specs.Line.{limit, end_of, kept_values, piece_in, piece_at}
 use Rattle.record_read.specs.Claims.{PiecesRead, PiecesEnd, PiecesLeft}
 use Rattle.record_read.proofs.Walking.{line_shorter}
 
@@ -64,7 +64,7 @@ unfolding durations_of total
 duration-small [] r after = omega arith
 duration-small (b ∷ before) r after = omega (arith, duration-small before r after)
 
-held_same : (vs : List ℤ) → all value_in_range vs ≡ true → map held vs ≡ vs
+held_same : (vs : List ℤ) → all value_in_range vs ≡ true → map held_integer vs ≡ vs
 held_same [] h = refl
 held_same (v ∷ vs) h = let k = both (value_in_range v) (all value_in_range vs) h in ap₂ ◌∷◌ (held-is v k.0) (held_same vs k.1)
 

@@ -1,128 +1,92 @@
 -- Values one by one, gathered, are the values that stand there.
-use Prim.Native.Nat.{ℕ, ◌≤◌, ◌<◌}
-use native.Mathlib.Omega.{arith}
-use mathlib.Core.Path.{◌≡◌, refl, sym, ap, ◌∙◌}
-use mathlib.Core.List.{List, [], ◌∷◌, ◌++◌}
-use mathlib.Core.Bool.{true, false}
-use lib.ListN.{length, drop}
+use Rattle.std.proofs.Common.{◌≡◌, ℕ, zero, suc, ◌-◌, ◌<◌, min, List, [], ◌∷◌, ◌++◌, map, true, ◌&&◌, length, take, replicate, get_or, refl, sym, ap, ap₂, ◌∙◌, arith}
+use Rattle.std.proofs.lemmas.List.{take-map, length-map, length-take, length-replicate}
+use lib.ListN.{length-append}
+use mathlib.Core.List.{map-append}
 use lib.IntN.{ℤ, pos}
-use mir.Syntax.{w32}
-use mir.Val.{SFits, to_z, of_z}
-use mir.Facts.{to_z-of_z}
-use Rattle.pattern_text.specs.Bytes.{Bytes, bytes, Reading, got, broken}
-use Rattle.pattern_text.specs.Form.{◌▸◌, many}
+use Rattle.pattern.specs.Slots.{all}
+use Rattle.pattern_text.specs.Bytes.{Bytes, Reading, got, broken}
+use Rattle.pattern_text.specs.Form.{giving, many, read_many}
 use Rattle.pattern_text.specs.Text.{pad}
-use Rattle.pattern_text.proofs.FormLaws.{many_exact}
-use Rattle.text_scan.specs.declared.Found as found
-use Rattle.text_scan.specs.declared.Integer.{Integer}
-use Rattle.text_scan.specs.declared.Integer.TheVariants.{Value, Broken}
-use Rattle.text_scan.specs.Scan.{end_of, held, word_at, integer_at}
-use Rattle.text_scan.proofs.Rests.{rests_form, Met, integered, no_integer, word-found, word_missing}
-use Rattle.text_scan.proofs.Composed.{held_fits}
-use Rattle.line_lists.proofs.Gather.{shrinks, gather, all_of, Walk, arrived, walked, walked_end, Turned, turn_end, turn_more, many_got}
-use Rattle.line_lists.proofs.Held.{held-leb, kept_more, all_more, counted}
+use Rattle.text_scan.specs.Scan.{held_integer}
+use Rattle.line_lists.specs.declared.Parts.{Parts}
+use Rattle.line_lists.specs.Lists.{gathered}
+use Rattle.line_lists.proofs.Gather.{all_read, read_giving}
+use Rattle.line_lists.proofs.Held.{held-leb}
 use Rattle.record.specs.Record.{value_in_range}
 use Rattle.record_text.specs.Piece.{value}
-use Rattle.record_text.proofs.LineLaws.{value_exact, value-long, value-starts}
-use Rattle.record_read.specs.declared.Values.{Values}
-use Rattle.record_read.specs.declared.ValuesRead.{ValuesRead}
-use Rattle.record_read.specs.Line.{no_values, add_value, gathered_values, value_at, value_turned, value_turn, values_read, values_at}
+use Rattle.record_read.specs.declared.Value.{Value}
+use Rattle.record_read.specs.Line.{kept_values, held_value, no_value, gathered_values}
 
--- ---- a space and a value
+abbrev wrapped : ℤ → Value
+wrapped v = record { 0 = v }
 
-module _ (t : Bytes) (at : ℕ) where
-  pub value_no_space : found.TheVariants.Nothing ≡ word_at (bytes " ") t at → Broken ≡ value_at t at
-  unfolding value_at value ◌▸◌
-  value_no_space e = rw (word_missing (bytes " ") t at e) refl
+map_replicate : {A B : Type 0} (f : A → B) (n : ℕ) (u : A) → replicate n (f u) ≡ map f (replicate n u)
+map_replicate f zero u = refl
+map_replicate f (suc n) u = ap (◌∷◌ (f u)) (map_replicate f n u)
 
-  pub value-is : (n : ℕ) (r : Integer) → found.TheVariants.At n ≡ word_at (bytes " ") t at → r ≡ integer_at t n → r ≡ value_at t at
-  unfolding value_at value ◌▸◌ integer_at
-  value-is n r e h = rw (word-found (bytes " ") t at n e).is h
+pad_map : {A B : Type 0} (f : A → B) (size : ℕ) (u : A) (xs : List A) → pad size (f u) (map f xs) ≡ map f (pad size u xs)
+unfolding pad
+pad_map f size u xs = rw (length-map xs f) (ap (λ ys. map f xs ++ ys) (map_replicate f (size - length xs) u) ∙ sym (map-append f xs (replicate (size - length xs) u)))
 
-  pub value_found : (v : ℤ) (n : ℕ) → Value v n ≡ value_at t at → Met held t (value.read (drop at t)) v n
-  unfolding value_at
-  value_found v n e = integered t (value.read (drop at t)) v n (rests_form value_exact t at) e
+map_map : {A B C : Type 0} (f : B → C) (g : A → B) (xs : List A) → map f (map g xs) ≡ map (λ x. f (g x)) xs
+map_map f g [] = refl
+map_map f g (x ∷ xs) = ap (◌∷◌ (f (g x))) (map_map f g xs)
 
-  pub value_missing : Broken ≡ value_at t at → value.read (drop at t) ≡ broken
-  unfolding value_at
-  value_missing e = no_integer t (value.read (drop at t)) e
+-- the slots, from the values as they were read
+slots_are : (vs : List ℤ) → pad 8 no_value (take 8 (map (λ (v : Value). v) (map held_value vs))) ≡ map wrapped (kept_values vs)
+slots_are vs =
+    ap (λ xs. pad 8 no_value (take 8 xs)) (map_map (λ (v : Value). v) held_value vs ∙ sym (map_map wrapped held_integer vs))
+    ∙ ap (pad 8 no_value) (take-map wrapped 8 (map held_integer vs)) ∙ pad_map wrapped 8 (pos 0) (take 8 (map held_integer vs))
 
--- ---- one value more
+ranges_are : (vs : List ℤ) → all (λ (v : Value). value_in_range v.0) (map held_value vs) ≡ all value_in_range vs
+ranges_are [] = refl
+ranges_are (v ∷ vs) = ap₂ ◌&&◌ (held-leb v) (ranges_are vs)
 
-abbrev add : Values → ℤ → Values
-add s v = add_value s (held v)
+all_known : (vs : List Value) → all (λ _. true) vs ≡ true
+all_known [] = refl
+all_known (v ∷ vs) = all_known vs
 
-one_more : (vs : List ℤ) (v : ℤ) → add (gathered_values vs) v ≡ gathered_values (vs ++ (v ∷ []))
-unfolding add_value gathered_values
-one_more vs v = λ i. record {
-  values = kept_more 8 256 (omega arith) (pos 0) held vs v i;
-  count = counted 256 vs v i;
-  inrange = all_more value_in_range held held-leb vs v i;
+gathered_are : (vs : List ℤ) → gathered 8 no_value (λ v. v) (λ v. value_in_range v.0) (λ _. true) (map held_value vs) ≡ gathered_values vs
+unfolding gathered gathered_values
+gathered_are vs = λ i. record {
+  parts = slots_are vs i;
+  count = ap (min 256) (length-map vs held_value) i;
+  in_range = ranges_are vs i;
+  known = all_known (map held_value vs) i;
 }
 
--- ---- the walk over the values
+pub values_are : (t : Bytes) → giving (gathered 8 no_value (λ v. v) (λ v. value_in_range v.0) (λ _. true)) (all_read (λ b. giving held_value (value.read b)) t)
+    ≡ giving gathered_values ((many value).read t)
+unfolding many
+values_are t = rw (read_giving held_value value.read (length t) t) (go (read_many value.read (length t) t))
+  where
+    go : (x : Reading (List ℤ)) → giving (gathered 8 no_value (λ v. v) (λ v. value_in_range v.0) (λ _. true)) (giving (map held_value) x) ≡ giving gathered_values x
+    go (got vs r) = ap (λ s. got s r) (gathered_are vs)
+    go broken = refl
 
-abbrev pub walk_of : ValuesRead → Walk Values
-walk_of s = record { state = s.values; next = s.next; more = s.more }
+-- the values of the first slots
+pub unwrapped : (vs : List ℤ) → map (λ (v : Value). v.0) (map wrapped vs) ≡ vs
+unwrapped [] = refl
+unwrapped (v ∷ vs) = ap (◌∷◌ v) (unwrapped vs)
 
-abbrev back : Walk Values → ValuesRead
-back w = record { values = w.state; next = w.next; more = w.more }
+-- an array that has the number of each of them
+numbers_are : (vs : List Value) (xs : List ℤ) → length xs ≡ length vs → ((i : ℕ) → i < length vs → get_or xs i (pos 0) ≡ (get_or vs i no_value).0) → xs ≡ map (λ (v : Value). v.0) vs
+numbers_are [] [] e h = refl
+numbers_are [] (x ∷ xs) e h = absurd (omega (arith, e))
+numbers_are (v ∷ vs) [] e h = absurd (omega (arith, e))
+numbers_are (v ∷ vs) (x ∷ xs) e h = ap₂ ◌∷◌ (h 0 (omega arith)) (numbers_are vs xs (omega (arith, e)) (λ i l. h (suc i) (omega arith)))
 
-unfoldable pub values_from : Bytes → ValuesRead → ValuesRead
-values_from t s = back (walked value add no_values t (walk_of s))
+kept_length : (vs : List ℤ) → length (kept_values vs) ≡ 8
+unfolding pad
+kept_length vs =
+    let xs = take 8 (map held_integer vs) in
+    rw (length-append xs (replicate (8 - length xs) (pos 0)), length-replicate (8 - length xs) (pos 0)) (omega (arith, length-take 8 (map held_integer vs)))
 
-shorter : (b : Bytes) (a : ℤ) (r : Bytes) → value.read b ≡ got a r → length r < length b
-shorter = shrinks value_exact value-long
-
-module _ (t : Bytes) where
-  abbrev pub Onward : ValuesRead → ValuesRead → Type 0
-  Onward s r = Turned value add no_values t (walk_of s) (walk_of r)
-
-  pub values-start : (at : ℕ) → values_at t at ≡ values_from t (record { values = no_values; next = at; more = true })
-  unfolding values_at values_from walked gathered_values pad
-  values-start at = go ((many value).read (drop at t))
-    where
-      go : (x : Reading (List ℤ)) → values_read t x ≡ back (arrived no_values t (gather add no_values x))
-      go (got vs r) = ap (λ g. record { values = g; next = end_of t r; more = false }) (sym (all_of add gathered_values one_more [] vs))
-      go broken = refl
-
-  pub values-end : (s : ValuesRead) → s.more ≡ false → s ≡ values_from t s
-  unfolding values_from
-  values-end s e = ap back (walked_end value add no_values t (walk_of s) e)
-
-  pub values_same : (s r : ValuesRead) → Onward s r → values_from t s ≡ values_from t r
-  unfolding values_from
-  values_same s r h = ap back h.same
-
-  pub values-turn : (s : ValuesRead) → s.more ≡ true → s.next ≤ length t → Onward s (value_turn t s)
-  unfolding value_turn
-  values-turn s e l = go (value_at t s.next) refl
-    where
-      go : (r : Integer) → r ≡ value_at t s.next → Onward s (value_turned s r)
-      go (Value y n) p = let k = value_found t s.next y n p in rw k.made (turn_more value add no_values t shorter (walk_of s) k.raw n e l k.is k.within)
-      go Broken p = turn_end value add no_values t shorter (walk_of s) e l (value_missing t s.next p)
-
-  -- what a turn answers
-  pub turned-end : (s : ValuesRead) → Broken ≡ value_at t s.next → record { values = s.values; next = s.next; more = false } ≡ value_turn t s
-  unfolding value_turn
-  turned-end s e = ap (value_turned s) e
-
-  pub turned_more : (s : ValuesRead) (v : ℤ) (n : ℕ) (g : Values) → Value v n ≡ value_at t s.next → g ≡ add_value s.values (to_z w32 (of_z w32 v)) → record { values = g; next = n; more = true } ≡ value_turn t s
-  unfolding value_turn
-  turned_more s v n g e h =
-      let fits : SFits w32 v = rw (value_found t s.next v n e).made (held_fits (value_found t s.next v n e).raw) in
-      ap (λ g. record { values = g; next = n; more = true }) (h ∙ ap (add_value s.values) (to_z-of_z fits)) ∙ ap (value_turned s) e
-
--- ---- what the values were read as
-
-pub record ValuesFound (t : Bytes) (at : ℕ) (r : ValuesRead) : Type 0 where
-  pub members : List ℤ
-  pub is : (many value).read (drop at t) ≡ got members (drop r.next t)
-  pub made : r.values ≡ gathered_values members
-  pub within : r.next ≤ length t
-
-pub values-found : (t : Bytes) (at : ℕ) (r : ValuesRead) → r ≡ values_at t at → ValuesFound t at r
-unfolding values_at
-values-found t at r e = many_got value shorter (drop at t) (λ vs q p.
-    let k : r ≡ values_read t (got vs q) = e ∙ ap (values_read t) p in
-    rw k (record { members = vs; is = p ∙ ap (got vs) (sym (rests_form (many_exact value_exact value-starts value-long) t at vs q p)); made = refl; within = omega arith }))
+pub slots_numbers : (s : Parts Value 8) (vs : List ℤ) → s ≡ gathered_values vs → (xs : List ℤ) → length xs ≡ 8
+    → ((i : ℕ) → i < 8 → get_or xs i (pos 0) ≡ (get_or s.parts i no_value).0) → xs ≡ kept_values vs
+unfolding gathered_values
+slots_numbers s vs k xs e h =
+    let p : s.parts ≡ map wrapped (kept_values vs) = ap (λ (x : Parts Value 8). x.parts) k in
+    let n : length s.parts ≡ 8 = rw (p, length-map (kept_values vs) wrapped) (kept_length vs) in
+    numbers_are s.parts xs (e ∙ sym n) (λ i l. h i (omega arith)) ∙ ap (map (λ (v : Value). v.0)) p ∙ unwrapped (kept_values vs)

@@ -7,7 +7,7 @@ use mathlib.Core.List.{List, [], ◌∷◌, ◌++◌, append-nil, append_assoc, 
 use mathlib.Core.Option.{none, some}
 use mathlib.Core.Bool.{Bool, true, false, cond, ◌&&◌}
 use lib.Dec.{eqb, leb}
-use lib.ListN.{length, drop, length-append, length-drop, length-map, drop_of_length-le}
+use lib.ListN.{length, drop, length-append, length-map}
 use borrow.Author.Tests.{leb-true, leb-false, le-leb, lt-leb, eqb-true, eqb-false, eq-eqb, ne_eqb}
 use Rattle.pattern.specs.declared.Refusal.TheVariants.{BrokenRecord}
 use Rattle.pattern.specs.Slots.{all}
@@ -16,8 +16,8 @@ use Rattle.pattern_text.specs.Bytes.{Bytes, Reading, got, broken}
 use Rattle.pattern_text.specs.Form.{◌◂◌, giving, read_many, many}
 use Rattle.pattern_text.specs.Line.{whole}
 use Rattle.pattern_text.proofs.Tools.{both, by-test}
-use Rattle.text_scan.specs.Scan.{end_of}
-use Rattle.text_scan.proofs.Position.{rest_at}
+use Rattle.text_reader.proofs.Left.{rest_is, rest_further}
+use Rattle.text_scan.proofs.Answered.{met, unmet}
 use Rattle.line_lists.proofs.Gather.{many-end, many_more}
 use Rattle.line_lists.proofs.Held.{min-leb}
 use Rattle.record.specs.Record.{total, value_in_range, record_sound}
@@ -25,25 +25,32 @@ use Rattle.record.proofs.RecordLaws.{total-append}
 use Rattle.record_text.specs.Piece.{RawPiece, values_in, piece_line}
 use Rattle.record_text.specs.Text.{record_form, read_record, durations_of, values_of, counts_fit, pieces_sound, pieces_refusal}
 use Rattle.record_text.proofs.LineLaws.{ended-faithful, ended-long, records, render_long}
-use Rattle.record_read.specs.declared.Checked.TheVariants.{Sound, Refused}
-use Rattle.record_read.specs.declared.LineRead.{LineRead}
+use Rattle.record_read.specs.declared.PieceLine.{PieceLine}
 use Rattle.record_read.specs.declared.Walk.{Walk}
-use Rattle.record_read.specs.Line.{limit, gathered_values, line_in, line_at}
-use Rattle.record_read.specs.Check.{checked_of, line_sound, start_walk, turned, finish_of}
+use Rattle.record_read.specs.Line.{limit, gathered_values, held_line, end_of}
+use Rattle.record_read.specs.Check.{checked_of, line_sound, turned}
 
--- ---- a line leaves less than there was
+-- ---- a line leaves less than there was, and the reader after it leaves what it left
 
 pub line_shorter : (b : Bytes) (p : RawPiece) (r : Bytes) → (piece_line ◂ "\n").read b ≡ got p r → length r < length b
 line_shorter b p r e = omega (arith, ended-long p, ap length (ended-faithful.sound b p r e), length-append ((piece_line ◂ "\n").write p) r)
 
-pub line_rest : (t : Bytes) (at : ℕ) (p : RawPiece) (r : Bytes) → (piece_line ◂ "\n").read (drop at t) ≡ got p r → drop (end_of t r) t ≡ r
-line_rest t at p r e = rest_at t at ((piece_line ◂ "\n").write p) r (ended-faithful.sound (drop at t) p r e)
+module _ (t : Bytes) (at : ℕ) (l : PieceLine) (r : Bytes) (e : got l r ≡ giving held_line ((piece_line ◂ "\n").read (drop at t))) where
+  says : RawPiece
+  says = (met held_line ((piece_line ◂ "\n").read (drop at t)) e).raw
 
--- ---- a turn, from what the functions that it calls answer
+  parted : drop at t ≡ (piece_line ◂ "\n").write says ++ r
+  unfolding says
+  parted = ended-faithful.sound (drop at t) says r (met held_line ((piece_line ◂ "\n").read (drop at t)) e).is
 
-pub turn_is : (n : ℕ) (s : Walk) (l : LineRead) (f : Bool) (k : ℕ) → f ≡ line_sound n l → k ≡ min limit (s.ticks + l.duration)
-    → record { form = s.form && l.found; sound = s.sound && f; ticks = k } ≡ turned n s l
-turn_is n s l f k ef ek = λ i. record { form = s.form && l.found; sound = s.sound && ef i; ticks = ek i }
+  pub line_left : drop (end_of t r) t ≡ r
+  line_left = rest_is t at ((piece_line ◂ "\n").write says) r parted
+
+  pub line_within : end_of t r ≤ length t
+  line_within = omega arith
+
+  pub line_further : at < end_of t r
+  line_further = rest_further t at ((piece_line ◂ "\n").write says) r parted (omega (arith, ended-long says))
 
 -- ---- the rules of a record, line by line
 
@@ -55,9 +62,9 @@ min_eqb c n m h = by-test (eqb m n)
     (λ t. let e = eqb-true m n t in rw t (eq-eqb (min c m) n (omega arith)))
     (λ t. rw t (ne_eqb (min c m) n (λ e. eqb-false m n t (omega arith))))
 
-line_sound-is : (n : ℕ) → n ≤ 255 → (t : Bytes) (p : RawPiece) (r : Bytes) → line_sound n (line_in t (got p r)) ≡ piece_sound n p
+line_sound-is : (n : ℕ) → n ≤ 255 → (p : RawPiece) → line_sound n (held_line p) ≡ piece_sound n p
 unfolding line_sound gathered_values piece_sound
-line_sound-is n h t p r = rw (least p.duration, min_eqb 256 n (length (values_in p)) (omega arith)) refl
+line_sound-is n h p = rw (least p.duration, min_eqb 256 n (length (values_in p)) (omega arith)) refl
   where
     least : (d : ℕ) → leb 1 (min limit d) ≡ leb 1 d
     least d = by-test (leb 1 d)
@@ -117,26 +124,21 @@ sound-is n rs few =
 
 -- the state after some lines
 unfoldable pub walked_over : (channels : ℕ) → List RawPiece → Walk
-walked_over n rs = record { form = true; sound = all (piece_sound n) rs; ticks = min limit (total (durations_of rs)) }
+walked_over n rs = record { sound = all (piece_sound n) rs; ticks = min limit (total (durations_of rs)) }
 
 abbrev pub after : List RawPiece → Reading (List RawPiece) → Reading (List RawPiece)
 after rs (got l r) = got (rs ++ l) r
 after rs broken = broken
 
--- at a position, the state says what is left of the text, or that it has not the form
-pub data Stands (n : ℕ) (t : Bytes) (at : ℕ) (s : Walk) : Type 0 where
-  reading : (rs : List RawPiece) → s ≡ walked_over n rs → read_record t ≡ whole (after rs (record_form.read (drop at t))) → Stands n t at s
-  failed : s.form ≡ false → read_record t ≡ none → Stands n t at s
+-- some lines were walked over, and b is left of the text
+pub record Stands (n : ℕ) (t b : Bytes) (s : Walk) : Type 0 where
+  pub lines : List RawPiece
+  pub state : s ≡ walked_over n lines
+  pub text : read_record t ≡ whole (after lines (record_form.read b))
 
--- a turn goes on to a further place
-pub record Onward (n : ℕ) (t : Bytes) (at : ℕ) (l : LineRead) (s : Walk) : Type 0 where
-  pub stands : Stands n t l.next s
-  pub within : l.next ≤ length t
-  pub further : at < l.next
-
-pub start-stands : (n : ℕ) (t : Bytes) → Stands n t 0 start_walk
+pub start-stands : (n : ℕ) (t : Bytes) → Stands n t t (record { sound = true; ticks = 0 })
 unfolding walked_over read_record durations_of total
-start-stands n t = reading [] refl (go (record_form.read t))
+start-stands n t = record { lines = []; state = refl; text = go (record_form.read t) }
   where
     go : (x : Reading (List RawPiece)) → whole x ≡ whole (after [] x)
     go (got l r) = refl
@@ -149,12 +151,11 @@ unfolding durations_of total
 total_snoc rs p = rw (map-append (λ (r : RawPiece). r.duration) rs (p ∷ []), total-append (durations_of rs) (p.duration ∷ [])) (omega arith)
 
 -- one line more
-walked_more : (n : ℕ) → n ≤ 255 → (t : Bytes) (s : Walk) (rs : List RawPiece) (p : RawPiece) (r : Bytes) → s ≡ walked_over n rs
-    → turned n s (line_in t (got p r)) ≡ walked_over n (rs ++ (p ∷ []))
+walked_more : (n : ℕ) → n ≤ 255 → (s : Walk) (rs : List RawPiece) (p : RawPiece) → s ≡ walked_over n rs
+    → turned n s (held_line p) ≡ walked_over n (rs ++ (p ∷ []))
 unfolding walked_over
-walked_more n few t s rs p r q = λ i. record {
-  form = (q i).form && true;
-  sound = (ap₂ ◌&&◌ (ap (λ (x : Walk). x.sound) q) (line_sound-is n few t p r) ∙ sym (all_snoc (piece_sound n) rs p)) i;
+walked_more n few s rs p q = λ i. record {
+  sound = (ap₂ ◌&&◌ (ap (λ (x : Walk). x.sound) q) (line_sound-is n few p) ∙ sym (all_snoc (piece_sound n) rs p)) i;
   ticks = ticks i;
 }
   where
@@ -171,41 +172,30 @@ whole-none : {A : Type 0} (a : A) (b : Bytes) → 0 < length b → whole (got a 
 whole-none a [] h = absurd (omega arith)
 whole-none a (c ∷ b) h = refl
 
-and-false : (b : Bool) → b && false ≡ false
-and-false true = refl
-and-false false = refl
+pub turn_on : (n : ℕ) (t b : Bytes) (s : Walk) → n ≤ 255 → Stands n t b s → (l : PieceLine) (r : Bytes) → got l r ≡ giving held_line ((piece_line ◂ "\n").read b)
+    → Stands n t r (turned n s l)
+unfolding record_form many
+turn_on n t b s few st l r e =
+    let k = met held_line ((piece_line ◂ "\n").read b) e in
+    record {
+      lines = st.lines ++ (k.raw ∷ []);
+      state = ap (turned n s) k.made ∙ walked_more n few s st.lines k.raw st.state;
+      text = st.text ∙ ap (λ x. whole (after st.lines x)) (many_more (piece_line ◂ "\n").read line_shorter b k.raw r k.is)
+          ∙ ap whole (after_more st.lines k.raw (record_form.read r));
+    }
 
-pub turn_on : (n : ℕ) (t : Bytes) (at : ℕ) (s : Walk) → n ≤ 255 → at < length t → Stands n t at s → Onward n t at (line_at t at) (turned n s (line_at t at))
-unfolding line_at record_form
-turn_on n t at s few h st = go ((piece_line ◂ "\n").read (drop at t)) refl st
-  where
-    go : (x : Reading RawPiece) → (piece_line ◂ "\n").read (drop at t) ≡ x → Stands n t at s → Onward n t at (line_in t x) (turned n s (line_in t x))
-    go (got p r) e (reading rs q k) = record {
-      stands = reading (rs ++ (p ∷ [])) (walked_more n few t s rs p r q)
-          (k ∙ ap (λ x. whole (after rs x)) (many_more (piece_line ◂ "\n") line_shorter (drop at t) p r e)
-          ∙ ap whole (after_more rs p (record_form.read r))
-          ∙ ap (λ (b : Bytes). whole (after (rs ++ (p ∷ [])) (record_form.read b))) (sym (line_rest t at p r e)));
-      within = omega arith;
-      further = omega (arith, line_shorter (drop at t) p r e, length-drop at t);
-    }
-    go (got p r) e (failed f k) = record { stands = failed (rw f refl) k; within = omega arith; further = omega (arith, line_shorter (drop at t) p r e, length-drop at t) }
-    go broken e (reading rs q k) = record {
-      stands = failed (and-false s.form) (k ∙ ap (λ x. whole (after rs x)) (many-end (piece_line ◂ "\n") line_shorter (drop at t) e) ∙ whole-none (rs ++ []) (drop at t) (omega (arith, length-drop at t)));
-      within = omega arith;
-      further = h;
-    }
-    go broken e (failed f k) = record { stands = failed (and-false s.form) k; within = omega arith; further = h }
+-- a line without the form
+pub form_broken : (n : ℕ) (t b : Bytes) (s : Walk) → Stands n t b s → 0 < length b → broken ≡ giving held_line ((piece_line ◂ "\n").read b) → read_record t ≡ none
+unfolding record_form many
+form_broken n t b s st h e =
+    st.text ∙ ap (λ x. whole (after st.lines x)) (many-end (piece_line ◂ "\n").read line_shorter b (unmet held_line ((piece_line ◂ "\n").read b) e)) ∙ whole-none (st.lines ++ []) b h
 
 -- ---- at the end
 
-pub finish-on : (n : ℕ) (t : Bytes) (at : ℕ) (s : Walk) → length t ≤ 16_384 → length t ≤ at → Stands n t at s → finish_of s ≡ checked_of (pieces_refusal n (read_record t))
-unfolding finish_of record_form many read_many walked_over
-finish-on n t at s short h (reading rs q k) =
-    let e : read_record t ≡ some rs = k ∙ ap (λ (b : Bytes). whole (after rs (record_form.read b))) (drop_of_length-le t {i = at} h) ∙ ap some (append-nil rs) in
-    let few : length rs ≤ 4_096 = omega (arith, render_long rs, ap length ((records t rs).0 e)) in
-    rw (q, e, sound-is n rs few) (go (all (piece_sound n) rs && leb (min limit (total (durations_of rs))) 2_147_483_647))
-  where
-    go : (b : Bool) → cond b Sound (Refused BrokenRecord) ≡ checked_of (cond b none (some BrokenRecord))
-    go true = refl
-    go false = refl
-finish-on n t at s short h (failed f k) = rw (f, k) refl
+pub finish-on : (n : ℕ) (t b : Bytes) (s : Walk) → length t ≤ 16_384 → b ≡ [] → Stands n t b s
+    → checked_of (cond (s.sound && leb s.ticks 2_147_483_647) none (some BrokenRecord)) ≡ checked_of (pieces_refusal n (read_record t))
+unfolding record_form many read_many walked_over
+finish-on n t b s short h st =
+    let e : read_record t ≡ some st.lines = st.text ∙ ap (λ (b : Bytes). whole (after st.lines (record_form.read b))) h ∙ ap some (append-nil st.lines) in
+    let few : length st.lines ≤ 4_096 = omega (arith, render_long st.lines, ap length ((records t st.lines).0 e)) in
+    rw (st.state, e, sound-is n st.lines few) refl

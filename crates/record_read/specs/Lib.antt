@@ -1,4 +1,5 @@
 -- Definitions: reading a record's text.
 pub mod Line
+pub mod Shorter
 pub mod Check
 pub mod Claims

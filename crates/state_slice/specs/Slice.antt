@@ -1,5 +1,5 @@
 -- The monitor's state as a lent slice of signed 64-bit numbers: entry 0 the ticks, entries 1 to 8 the last values.
-use Rattle.std.specs.Prelude.{List, ◌∷◌, ◌++◌, Bool, ◌&&◌, leb, length, take, drop, get_or, ℤ, pos, negsuc, nat_abs}
+use Rattle.std.specs.Prelude.{List, ◌∷◌, ◌++◌, Bool, ◌&&◌, leb, length, take, drop, get_or, cond, ℤ, pos, negsuc, nat_abs, Option, Some, None}
 use Rattle.std.specs.Int.Signed.{le_z}
 use Rattle.pattern.specs.Slots.{all}
 use Rattle.monitor.specs.declared.State.{State}
@@ -23,6 +23,10 @@ holds_state l = leb 9 (length l) && is_ticks (get_or l 0 (pos 0)) && all is_valu
 -- The state that it holds.
 abbrev pub state_in : List ℤ → State
 state_in l = record { ticks = nat_abs (get_or l 0 (pos 0)); last = last_in l }
+
+-- The same as an answer: none, if it holds no state.
+abbrev pub held_state : List ℤ → Option State
+held_state l = cond (holds_state l) (Some (state_in l)) None
 
 -- The slice once a state was written into it; entries past the state's nine are untouched.
 abbrev pub with_state : State → List ℤ → List ℤ

@@ -1,6 +1,5 @@
--- What the numbers of an edge mean: the spans are what the guards ask, and a step made of an edge's numbers does what the
--- edge does.
-use Prim.Native.Nat.{ℕ, zero, suc, ◌+◌, ◌*◌, ◌/◌, ◌%◌, ◌≤◌, ◌<◌, min, max}
+-- What a step means: the spans are what the guards ask, and the step made of an edge does what the edge does.
+use Prim.Native.Nat.{ℕ, zero, suc, ◌+◌, ◌≤◌, ◌<◌, min, max}
 use native.Mathlib.Omega.{arith}
 use mathlib.Core.Path.{◌≡◌, refl, sym, ap, ap₂, ◌∙◌}
 use mathlib.Core.Bool.{Bool, true, false, cond, ◌&&◌, and-true}
@@ -22,25 +21,15 @@ use Rattle.pattern.proofs.ListLaws.{take-in_use, take_more}
 use Rattle.pattern.proofs.SlotLaws.{all_snoc}
 use Rattle.pattern.proofs.SoundLaws.{both}
 use Rattle.steps.specs.declared.Span.{Span}
-use Rattle.steps.specs.Steps.{edge_in, step_at, in_span, goes_in, kept_by, Fit, StepOf, Steps}
-use Rattle.steps.specs.Made.{narrowed, narrowed_on, span_of, number_of}
+use Rattle.steps.specs.declared.Step.{Step}
+use Rattle.steps.specs.Steps.{edge_in, step_in, in_span, Fit, StepOf, Steps}
+use Rattle.steps.specs.Made.{narrowed, narrowed_on, span_of, step_of}
 
 pub span_more : (e : Edge) (k n : ℕ) → narrowed_on k (get_or e.guards n no_guard) (span_of e k n) ≡ span_of e k (n + 1)
 unfolding span_of
 span_more e k n =
     let up : suc n ≡ n + 1 = omega arith in
     ap (span_of e k) up
-
-pub goes-is : (ss : List ℕ) (i : ℕ) (cs : Clocks) (a b c d : Bool) → a ≡ in_span (get_or ss (i * 13) 0) (get_or ss (i * 13 + 4) 0) (clock_at cs 0) → b ≡ in_span (get_or ss (i * 13 + 1) 0) (get_or ss (i * 13 + 1 + 4) 0) (clock_at cs 1) → c ≡ in_span (get_or ss (i * 13 + 2) 0) (get_or ss (i * 13 + 2 + 4) 0) (clock_at cs 2) → d ≡ in_span (get_or ss (i * 13 + 3) 0) (get_or ss (i * 13 + 3 + 4) 0) (clock_at cs 3) → a && (b && (c && d)) ≡ goes_in ss i cs
-goes-is ss i cs a b c d ea eb ec ed =
-    let o : i * 13 ≡ i * 13 + 0 = omega arith in
-    let p : i * 13 + 1 + 4 ≡ i * 13 + 5 = omega arith in
-    let q : i * 13 + 2 + 4 ≡ i * 13 + 6 = omega arith in
-    let r : i * 13 + 3 + 4 ≡ i * 13 + 7 = omega arith in
-    ap₂ ◌&&◌ (ea ∙ ap (λ (x : ℕ). in_span (get_or ss x 0) (get_or ss (i * 13 + 4) 0) (clock_at cs 0)) o)
-    (ap₂ ◌&&◌ (eb ∙ ap (λ (x : ℕ). in_span (get_or ss (i * 13 + 1) 0) (get_or ss x 0) (clock_at cs 1)) p)
-    (ap₂ ◌&&◌ (ec ∙ ap (λ (x : ℕ). in_span (get_or ss (i * 13 + 2) 0) (get_or ss x 0) (clock_at cs 2)) q)
-    (ed ∙ ap (λ (x : ℕ). in_span (get_or ss (i * 13 + 3) 0) (get_or ss x 0) (clock_at cs 3)) r ∙ sym (and-true _))))
 
 -- ---- a span narrowed by a guard
 
@@ -88,21 +77,21 @@ and-swap false b c = refl
 abbrev guard_on : (k x : ℕ) → Guard → Bool
 guard_on k x g = cond (eqb g.clock k) (on_side g.sign x g.bound) true
 
-narrowed-in : (s : Span) (sign : Sign) (b x : ℕ) → in_span (narrowed s sign b).low (narrowed s sign b).upto x ≡ in_span s.low s.upto x && on_side sign x b
+narrowed-in : (s : Span) (sign : Sign) (b x : ℕ) → in_span (narrowed s sign b) x ≡ in_span s x && on_side sign x b
 narrowed-in s Less b x = ap (λ (t : Bool). leb s.low x && t) (lt-min x s.upto b) ∙ and_last (leb s.low x) (ltb x s.upto) (ltb x b)
 narrowed-in s AtMost b x = ap (λ (t : Bool). leb s.low x && t) (lt-min x s.upto (b + 1) ∙ ap (λ (t : Bool). ltb x s.upto && t) (lt-next x b)) ∙ and_last (leb s.low x) (ltb x s.upto) (leb x b)
 narrowed-in s More b x = ap (λ (t : Bool). t && ltb x s.upto) (max-le x s.low (b + 1) ∙ ap (λ (t : Bool). leb s.low x && t) (next_le x b)) ∙ and-swap (leb s.low x) (ltb x s.upto) (ltb b x)
 narrowed-in s AtLeast b x = ap (λ (t : Bool). t && ltb x s.upto) (max-le x s.low b) ∙ and-swap (leb s.low x) (ltb x s.upto) (leb b x)
 
-on_in : (k x : ℕ) (g : Guard) (s : Span) → in_span (narrowed_on k g s).low (narrowed_on k g s).upto x ≡ in_span s.low s.upto x && guard_on k x g
+on_in : (k x : ℕ) (g : Guard) (s : Span) → in_span (narrowed_on k g s) x ≡ in_span s x && guard_on k x g
 on_in k x g s = by (eqb g.clock k)
   where
-    by : (t : Bool) → in_span (cond t (narrowed s g.sign g.bound) s).low (cond t (narrowed s g.sign g.bound) s).upto x ≡ in_span s.low s.upto x && cond t (on_side g.sign x g.bound) true
+    by : (t : Bool) → in_span (cond t (narrowed s g.sign g.bound) s) x ≡ in_span s x && cond t (on_side g.sign x g.bound) true
     by true = narrowed-in s g.sign g.bound x
     by false = sym (and-true _)
 
 -- the span that n guards leave has the values that they ask for
-span_in : (e : Edge) (k x n : ℕ) → x < 65536 → n ≤ length e.guards → in_span (span_of e k n).low (span_of e k n).upto x ≡ all (guard_on k x) (take n e.guards)
+span_in : (e : Edge) (k x n : ℕ) → x < 65536 → n ≤ length e.guards → in_span (span_of e k n) x ≡ all (guard_on k x) (take n e.guards)
 unfolding span_of
 span_in e k x zero small few = both_true (leb 0 x) (ltb x 65536) (le-leb 0 x (omega arith)) (lt-ltb x 65536 small)
 span_in e k x (suc n) small few =
@@ -166,47 +155,37 @@ four_are (a ∷ b ∷ c ∷ []) d e = absurd (let z : ◌≡◌ {A = ℕ} 3 4 = 
 four_are (a ∷ b ∷ c ∷ f ∷ []) d e = refl
 four_are (a ∷ b ∷ c ∷ f ∷ g ∷ xs) d e = absurd (let z : suc (suc (suc (suc (suc (length xs))))) ≡ 4 = e in omega arith)
 
-kept-is : (b : Bool) (x : ℕ) → kept_by (cond b 1 0) x ≡ cond b 0 x
-kept-is true x = refl
-kept-is false x = refl
-
--- the numbers of an edge are a step of it
-numbers-step : (e : Edge) (ss : List ℕ) (i : ℕ) → Fit e → ((j : ℕ) → j < 13 → step_at ss i j ≡ number_of e j) → StepOf e ss i
-unfolding number_of guards_hold after_resets zip_with
-numbers-step e ss i fit is =
+-- the step made of an edge is a step of it
+step-made : (e : Edge) → Fit e → StepOf e (step_of e)
+unfolding guards_hold after_resets zip_with
+step-made e fit =
     record {
-      leads = is 12 (omega arith);
+      leads = refl;
       goes = λ cs small.
           let n = min e.count 4 in
           let few : n ≤ length e.guards = (let y = fit.guards in omega arith) in
-          ap₂ ◌&&◌ (ap₂ (λ (a b : ℕ). in_span a b (clock_at cs 0)) (is 0 (omega arith)) (is 4 (omega arith)) ∙ span_in e 0 (clock_at cs 0) n (small 0 (omega arith)) few)
-          (ap₂ ◌&&◌ (ap₂ (λ (a b : ℕ). in_span a b (clock_at cs 1)) (is 1 (omega arith)) (is 5 (omega arith)) ∙ span_in e 1 (clock_at cs 1) n (small 1 (omega arith)) few)
-          (ap₂ ◌&&◌ (ap₂ (λ (a b : ℕ). in_span a b (clock_at cs 2)) (is 2 (omega arith)) (is 6 (omega arith)) ∙ span_in e 2 (clock_at cs 2) n (small 2 (omega arith)) few)
-          (and-true _ ∙ ap₂ (λ (a b : ℕ). in_span a b (clock_at cs 3)) (is 3 (omega arith)) (is 7 (omega arith)) ∙ span_in e 3 (clock_at cs 3) n (small 3 (omega arith)) few)))
+          ap₂ ◌&&◌ (span_in e 0 (clock_at cs 0) n (small 0 (omega arith)) few)
+          (ap₂ ◌&&◌ (span_in e 1 (clock_at cs 1) n (small 1 (omega arith)) few)
+          (ap₂ ◌&&◌ (span_in e 2 (clock_at cs 2) n (small 2 (omega arith)) few)
+          (and-true _ ∙ span_in e 3 (clock_at cs 3) n (small 3 (omega arith)) few)))
           ∙ ap (λ (gs : List Guard). on cs 0 gs && (on cs 1 gs && (on cs 2 gs && on cs 3 gs))) (take-in_use e.count 4 e.guards fit.guards)
           ∙ four-clocks cs (guards_of e) fit.clocks;
       after = λ cs four.
-          rw (is 8 (omega arith), is 9 (omega arith), is 10 (omega arith), is 11 (omega arith), kept-is (get_or e.resets 0 false) (clock_at cs 0), kept-is (get_or e.resets 1 false) (clock_at cs 1), kept-is (get_or e.resets 2 false) (clock_at cs 2), kept-is (get_or e.resets 3 false) (clock_at cs 3))
-          (sym (ap₂ (λ (rs : List Bool) (xs : Clocks). zip_with (λ reset c. cond reset 0 c) rs xs) (four_are e.resets false fit.resets) (four_are cs 0 four)));
+          sym (ap₂ (λ (rs : List Bool) (xs : Clocks). zip_with (λ reset c. cond reset 0 c) rs xs) (four_are e.resets false fit.resets) (four_are cs 0 four));
     }
 
--- entry k as well as those before it
-pub written-more : (xs : List ℕ) (f : ℕ → ℕ) (k v : ℕ) → k < length xs → v ≡ f k → ((j : ℕ) → j < k → get_or xs j 0 ≡ f j) → (j : ℕ) → j < k + 1 → get_or (set xs k v) j 0 ≡ f j
-written-more xs f k v low is h j small = by (eqb j k) refl
+-- step k as well as those before it
+pub written-more : (ss : List Step) (es : List Edge) (k : ℕ) (v : Step) → k < length ss → v ≡ step_of (edge_in es k) → ((j : ℕ) → j < k → step_in ss j ≡ step_of (edge_in es j)) → (j : ℕ) → j < k + 1 → step_in (set ss k v) j ≡ step_of (edge_in es j)
+written-more ss es k v low is h j small = by (eqb j k) refl
   where
-    by : (b : Bool) → eqb j k ≡ b → get_or (set xs k v) j 0 ≡ f j
+    by : (b : Bool) → eqb j k ≡ b → step_in (set ss k v) j ≡ step_of (edge_in es j)
     by true e =
         let q : j ≡ k = eqb-true j k e in
-        rw q (get_or-set_same xs k v 0 low ∙ is)
+        rw q (get_or-set_same ss k v _ low ∙ is)
     by false e =
         let q = eqb-false j k e in
-        get_or-set_other xs k j v 0 q ∙ h j (omega arith)
+        get_or-set_other ss k j v _ q ∙ h j (omega arith)
 
-pub steps-made : (es : List Edge) (count : ℕ) (ss : List ℕ) → ((i : ℕ) → i < count → Fit (edge_in es i)) → ((k : ℕ) → k < count * 13 → get_or ss k 0 ≡ number_of (edge_in es (k / 13)) (k % 13)) → Steps es count ss
+pub steps-made : (es : List Edge) (count : ℕ) (ss : List Step) → ((i : ℕ) → i < count → Fit (edge_in es i)) → ((i : ℕ) → i < count → step_in ss i ≡ step_of (edge_in es i)) → Steps es count ss
 steps-made es count ss fit is =
-    record {
-      at = λ i low. numbers-step (edge_in es i) ss i (fit i low) (λ j small.
-          let d : (i * 13 + j) / 13 ≡ i = omega arith in
-          let m : (i * 13 + j) % 13 ≡ j = omega arith in
-          is (i * 13 + j) (omega arith) ∙ ap₂ (λ (a b : ℕ). number_of (edge_in es a) b) d m);
-    }
+    record { at = λ i low. rw (is i low) (step-made (edge_in es i) (fit i low)) }

@@ -1,3 +1,3 @@
--- The edges as numbers: what they say, and how they are made (for the code alone).
+-- The steps of edges: what they say, and how they are made (for the code alone).
 pub mod Steps
 pub mod Made

@@ -1,11 +1,12 @@
--- How the numbers of a step are made from an edge, for the contracts of the functions that make them.
-use Rattle.std.specs.Prelude.{ℕ, zero, suc, ◌+◌, ◌-◌, min, max, false, cond, eqb, ltb, get_or}
+-- How a step is made from an edge, for the contracts of the functions that make it.
+use Rattle.std.specs.Prelude.{ℕ, zero, suc, ◌+◌, min, max, [], ◌∷◌, cond, eqb, get_or}
 use Rattle.pattern.specs.declared.Sign.{Sign}
 use Rattle.pattern.specs.declared.Sign.TheVariants.{Less, AtMost, More, AtLeast}
 use Rattle.pattern.specs.declared.Guard.{Guard}
 use Rattle.pattern.specs.declared.Edge.{Edge}
 use Rattle.pattern.specs.Sound.{no_guard}
 use Rattle.steps.specs.declared.Span.{Span}
+use Rattle.steps.specs.declared.Step.{Step}
 
 -- What a guard leaves of a span.
 abbrev pub narrowed : Span → Sign → (bound : ℕ) → Span
@@ -23,10 +24,11 @@ unfoldable pub span_of : Edge → (k n : ℕ) → Span
 span_of e k zero = record { low = 0; upto = 65536 }
 span_of e k (suc n) = narrowed_on k (get_or e.guards n no_guard) (span_of e k n)
 
--- Number j of an edge.
-unfoldable pub number_of : Edge → (j : ℕ) → ℕ
-number_of e j =
-    cond (ltb j 4) (span_of e j (min e.count 4)).low
-    (cond (ltb j 8) (span_of e (j - 4) (min e.count 4)).upto
-    (cond (ltb j 12) (cond (get_or e.resets (j - 8) false) 1 0)
-    e.to))
+-- The step of an edge.
+abbrev pub step_of : Edge → Step
+step_of e =
+    record {
+      spans = span_of e 0 (min e.count 4) ∷ span_of e 1 (min e.count 4) ∷ span_of e 2 (min e.count 4) ∷ span_of e 3 (min e.count 4) ∷ [];
+      resets = e.resets;
+      to = e.to;
+    }

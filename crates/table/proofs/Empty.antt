@@ -3,6 +3,7 @@ use Prim.Native.Nat.{ℕ, ◌+◌, ◌≤◌, ◌<◌, zero-le}
 use native.Mathlib.Omega.{arith}
 use mathlib.Core.Path.{◌≡◌, refl, sym}
 use mathlib.Core.Bool.{Bool, true, false}
+use Rattle.std.specs.Prelude.{Option}
 use mathlib.Core.List.{List}
 use lib.IntN.{ℤ}
 use lib.Signed.{lt_z}
@@ -42,7 +43,7 @@ module _ (l : Layout) (w : Weighing) (es : List Edge) (count : ℕ) (t : List �
         by true m = sym (pass_is l w es count g n p at t t m (visits_skip l w es count g n p at 0 l.block t zero-le none))
         by false m = sym (pass_no l w es count g n p at t m)
 
-    pub empty-told : (tells : List Bool) (r : Report) → told_pass l w es count tells g n p at t r ≡ r
+    pub empty-told : (tells : List Bool) (r : Option Report) → told_pass l w es count tells g n p at t r ≡ r
     unfolding each
     empty-told tells r = by (lt_z mark g) refl
       where
@@ -59,12 +60,12 @@ module _ (l : Layout) (w : Weighing) (es : List Edge) (count : ℕ) (t : List �
     unfolding place_of
     empty-place g h p q = rw (empty_pass g n p (block_at l n 0 p) (at_stage 0 p (omega arith) q)) (empty_pass h n p (block_at l n 1 p) (at_stage 1 p (omega arith) q))
 
-    empty-place-told : (tells : List Bool) (g h : ℤ) (p : ℕ) (r : Report) → p < l.places → told_place l w es count tells g h n p t r ≡ r
+    empty-place-told : (tells : List Bool) (g h : ℤ) (p : ℕ) (r : Option Report) → p < l.places → told_place l w es count tells g h n p t r ≡ r
     unfolding told_place
     empty-place-told tells g h p r q = rw (empty-told g n p (block_at l n 0 p) (at_stage 0 p (omega arith) q) tells r) (empty-told h n p (block_at l n 1 p) (at_stage 1 p (omega arith) q) tells r)
 
     pub empty-row : places_of l w v es count n l.places t ≡ t
     empty-row = each_none _ l.places t (λ p q. empty-place _ _ p q)
 
-    pub empty-row-told : (tells : List Bool) (r : Report) → told_places l w v es count tells n l.places t r ≡ r
+    pub empty-row-told : (tells : List Bool) (r : Option Report) → told_places l w v es count tells n l.places t r ≡ r
     empty-row-told tells r = each_none _ l.places r (λ p q. empty-place-told tells _ _ p r q)

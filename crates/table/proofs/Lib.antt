@@ -4,4 +4,4 @@ pub mod Steps
 pub mod Told
 pub mod Flags
 pub mod Empty
-pub mod Links
+pub mod Linking

@@ -5,6 +5,7 @@ use native.Mathlib.Numerals.{add-one}
 use native.Mathlib.Nat.{mul-le-mul_right, mul-zero, zero-add, div-add-mod', mod-lt, div-lt_iff_lt-mul}
 use mathlib.Core.Path.{◌≡◌, refl, sym, ap, ◌∙◌}
 use mathlib.Core.Bool.{Bool, true, false, cond}
+use Rattle.std.specs.Prelude.{Option}
 use mathlib.Core.List.{List, zip_with}
 use mathlib.Core.Logic.{inl, inr}
 use borrow.Author.Tests.{eq-eqb, ne_eqb, eqb-true, eqb-false}
@@ -25,14 +26,16 @@ use Rattle.cells.specs.declared.Layout.{Layout}
 use Rattle.cells.specs.Layout.{Laid, cells_in}
 use Rattle.cells.specs.Index.{code_of, clocks_at, ticked, Within, block_at}
 use Rattle.cells.proofs.Digits.{four_is, coded, block-some}
-use Rattle.cells.proofs.Blocks.{row_next, row_inside, blocks_inside, row_fits, block-low, block_in}
+use Rattle.cells.proofs.Blocks.{row_next, blocks_inside, block-low, block_in}
 use Rattle.table.specs.declared.View.{View}
+use Rattle.table.specs.declared.Block.{Block}
 use Rattle.table.specs.declared.Sent.{Sent}
 use Rattle.table.specs.declared.report.Report.{Report}
 use Rattle.steps.specs.Steps.{edge_in}
-use Rattle.table.specs.Moves.{cell_at, marked, cleared, each, offered, moved, still, leave_of, leaves_of, spread_of, stay_of, sent_of, visit_of, visits_of, pass_of, gain_at, gain_in, place_of, places_of, row_of, rows_of, starts_of, begun, tick_of, open_of}
+use Rattle.table.specs.Moves.{cell_at, cleared, each, offered, moved, still, leave_of, leaves_of, spread_of, stay_of, sent_of, visit_of, visits_of, pass_of, gain_at, gain_in, place_of, places_of, row_of, rows_of, starts_of, begun, tick_of, open_of}
 use Rattle.table.specs.Reports.{told_pass, told_place}
-use Rattle.table.specs.Asks.{Sized, Known, Whole, Bounded, Sourced, Hop, Routed, Edges, Moving, Passing, Ready, Placing, Rows}
+use Rattle.table.specs.Edges.{Edged, Sourced, Hop}
+use Rattle.table.specs.Asks.{Sized, Known, Gains, Whole, Bounded, Moving, Passing, Ready, Placing, Rows}
 use Rattle.table.proofs.Kept.{Kept, row_kept, marked-kept}
 
 -- ---- sizes
@@ -52,13 +55,6 @@ sized_mark {k} {z} l (inr s) h =
 pub sized_more : {k m : ℕ} {z : ℤ} → k ≤ m → Sized k z → Sized m z
 sized_more l (inl e) = inl e
 sized_more l (inr s) = inr (omega arith)
-
-pub marked_more : (t : List ℤ) (a i : ℕ) → a ≤ i → set (marked t a (i - a)) i mark ≡ marked t a (i + 1 - a)
-unfolding marked
-marked_more t a i h =
-    let e : i + 1 - a ≡ suc (i - a) = omega arith in
-    let f : a + (i - a) ≡ i = omega arith in
-    rw (e, f)
 
 pub each_more : {A : Type 0} (f : ℕ → A → A) (k : ℕ) (t₀ t u : A) → t ≡ each f k t₀ → u ≡ f k t → u ≡ each f (k + 1) t₀
 unfolding each
@@ -133,10 +129,10 @@ grown-fits w v g a b = combine-fits w v g (omega arith)
 -- ---- the edges out of a place
 
 -- a block of row n + 1 is in the table
-pub next-in : {t : List ℤ} {l : Layout} {n : ℕ} {cs : Clocks} {stage p to : ℕ} → Moving t l n cs → to ≡ block_at l (n + 1) stage p → stage ≤ 1 → p < l.places → to + l.block ≤ length t
-next-in {t} {l} {n} {cs} {stage} {p} m e st h =
+pub next-in : {t : List ℤ} {l : Layout} {n : ℕ} {cs : Clocks} {stage p to : ℕ} → Laid l → Moving t l n cs → to ≡ block_at l (n + 1) stage p → stage ≤ 1 → p < l.places → to + l.block ≤ length t
+next-in {t} {l} {n} {cs} {stage} {p} laid m e st h =
     let low = m.low in
-    let b = block_in l (n + 1) stage p (record { laid = m.laid; low = omega arith; stages = st; place = h }) in
+    let b = block_in l (n + 1) stage p (record { laid = laid; low = omega arith; stages = st; place = h }) in
     omega (arith, m.inside)
 
 pub leave_is : (l : Layout) (w : Weighing) (n p : ℕ) (cs : Clocks) (x : ℤ) (e : Edge) (t : List ℤ) → e.from ≡ p → moved l w e (block_at l (n + 1) 0 e.to) cs x t ≡ leave_of l w n p cs x e t
@@ -210,10 +206,9 @@ pub bounded-part : {t : List ℤ} {a n : ℕ} (b m : ℕ) → Bounded t a n → 
 bounded-part {t} {a} {n} b m o h =
     record { at = λ k i. let s : a + b + k ≡ a + (b + k) = omega arith in rw s (o.at (b + k) (omega arith)) }
 
-pub passing_kept : {t u : List ℤ} {l : Layout} {g : ℤ} {n p at : ℕ} → Kept ((n + 1) * l.row) t u → Passing t l g n p at → Passing u l g n p at
+pub passing_kept : {t u : List ℤ} {l : Layout} {b : Block} → Kept ((b.len + 1) * l.row) t u → Passing t l b → Passing u l b
 passing_kept k h =
     record {
-      laid = h.laid;
       gain = h.gain;
       low = h.low;
       place = h.place;
@@ -222,15 +217,8 @@ passing_kept k h =
       bounded = bounded-kept k h.apart h.bounded;
     }
 
-pub cell_in : {t : List ℤ} {l : Layout} {g : ℤ} {n p at : ℕ} (k : ℕ) → Passing t l g n p at → k < l.block → at + k < length t
-cell_in {t} {l} {g} {n} k h low =
-    let f = row_fits l n h.low in
-    let a = h.apart in
-    let i = h.inside in
-    omega arith
-
-pub passing_moving : {t : List ℤ} {l : Layout} {g : ℤ} {n p at : ℕ} (cs : Clocks) → Passing t l g n p at → Within l.radices cs → Moving t l n cs
-passing_moving cs h i = record { laid = h.laid; low = h.low; inside = h.inside; within = i }
+pub passing_moving : {t : List ℤ} {l : Layout} {b : Block} (cs : Clocks) → Passing t l b → Within l.radices cs → Moving t l b.len cs
+passing_moving cs h i = record { low = h.low; inside = h.inside; within = i }
 
 module _ (l : Layout) (w : Weighing) (g : ℤ) (n p : ℕ) (cs : Clocks) where
   pub stay-is : (v : ℤ) (t : List ℤ) (c : Clocks) (x : ℤ) (e : Edge) (to : ℕ) (u : List ℤ) → c ≡ ticked l.radices cs → x ≡ (weighting_of w).combine v g → e ≡ still p → to ≡ block_at l (n + 1) 1 p → u ≡ moved l w e to c x t → u ≡ stay_of l w g n p cs v t
@@ -273,13 +261,12 @@ ready-kept {l} {n} k r =
     record { inside = rw k.long r.inside; low = r.low; bounded = bounded-kept k (omega (arith, row_next n l.row)) r.bounded }
 
 -- a block of row n can be moved
-pub pass_asks : (t : List ℤ) (l : Layout) (g : ℤ) (n stage p : ℕ) → Laid l → Sized 8000000 g → stage ≤ 1 → p < l.places → Ready t l n → Passing t l g n p (block_at l n stage p)
+pub pass_asks : (t : List ℤ) (l : Layout) (g : ℤ) (n stage p : ℕ) → Laid l → Sized 8000000 g → stage ≤ 1 → p < l.places → Ready t l n → Passing t l (record { len = n; place = p; start = block_at l n stage p; gain = g })
 unfolding block_at
 pass_asks t l g n stage p laid small st pl r =
     let low = r.low in
     let b = block-low l n stage p (record { laid = laid; low = omega arith; stages = st; place = pl }) in
     record {
-      laid = laid;
       gain = small;
       low = r.low;
       place = pl;
@@ -293,7 +280,7 @@ module _ (l : Layout) (w : Weighing) (es : List Edge) (count : ℕ) (g h : ℤ) 
   abbrev pub stage_pass : ℕ → List ℤ → List ℤ
   stage_pass stage = pass_of l w es count (gain_in g h stage) n p (block_at l n stage p)
 
-  abbrev pub stage_told : (tells : List Bool) → List ℤ → ℕ → Report → Report
+  abbrev pub stage_told : (tells : List Bool) → List ℤ → ℕ → Option Report → Option Report
   stage_told tells t stage = told_pass l w es count tells (gain_in g h stage) n p (block_at l n stage p) t
 
   stage_sized : (stage : ℕ) → Sized 8000000 g → Sized 8000000 h → Sized 8000000 (gain_in g h stage)
@@ -303,30 +290,35 @@ module _ (l : Layout) (w : Weighing) (es : List Edge) (count : ℕ) (g h : ℤ) 
       by true = a
       by false = b
 
-  pub stage_asks : (t u : List ℤ) (stage at : ℕ) → Placing t l g h n p → stage < 2 → Kept ((n + 1) * l.row) t u → at ≡ block_at l n stage p → Passing u l (gain_in g h stage) n p at
-  stage_asks t u stage at r low k e =
-      rw e (pass_asks u l (gain_in g h stage) n stage p r.laid (stage_sized stage r.entered r.staying) (omega arith) r.place (ready-kept k r.ready))
+  pub stage_asks : (t u : List ℤ) (stage at : ℕ) → Laid l → Placing t l g h n p → stage < 2 → Kept ((n + 1) * l.row) t u → at ≡ block_at l n stage p → Passing u l (record { len = n; place = p; start = at; gain = gain_in g h stage })
+  stage_asks t u stage at laid r low k e =
+      rw e (pass_asks u l (gain_in g h stage) n stage p laid (stage_sized stage r.entered r.staying) (omega arith) r.place (ready-kept k r.ready))
 
   pub stages-place : (stage : ℕ) (t u : List ℤ) → stage ≡ 2 → u ≡ each stage_pass stage t → u ≡ place_of l w es count g h n p t
   unfolding each place_of
   stages-place stage t u two e = rw two at e
 
-  pub stages-told : (tells : List Bool) (t : List ℤ) (stage : ℕ) (r q : Report) → stage ≡ 2 → q ≡ each (stage_told tells t) stage r → q ≡ told_place l w es count tells g h n p t r
+  pub stages-told : (tells : List Bool) (t : List ℤ) (stage : ℕ) (r q : Option Report) → stage ≡ 2 → q ≡ each (stage_told tells t) stage r → q ≡ told_place l w es count tells g h n p t r
   unfolding each told_place
   stages-told tells t stage r q two e = rw two at e
 
 -- ---- rows
 
-pub known-place : (t : List ℤ) (l : Layout) (v : View) (es : List Edge) (count : ℕ) (g h : ℤ) (n p : ℕ) → Known l v es count → Ready t l n → p < l.places → g ≡ gain_at v.entered p → h ≡ gain_at v.staying p → Placing t l g h n p
-known-place t l v es count g h n p k r low eg eh =
-    rw (eg, eh) (record { laid = k.laid; entered = k.entered p low; staying = k.staying p low; place = low; ready = r })
+pub known-place : (t : List ℤ) (l : Layout) (v : View) (g h : ℤ) (n p : ℕ) → Gains l v → Ready t l n → p < l.places → g ≡ gain_at v.entered p → h ≡ gain_at v.staying p → Placing t l g h n p
+known-place t l v g h n p k r low eg eh =
+    rw (eg, eh) (record { entered = k.entered p low; staying = k.staying p low; place = low; ready = r })
 
-pub known-edges : {l : Layout} {v : View} {es : List Edge} {count : ℕ} {links steps : List ℕ} → Known l v es count → Routed es count links steps → Edges l es count links steps
-known-edges k h = record { few = k.edges; tos = k.tos; routed = h }
+pub edged_sourced : {l : Layout} {es : List Edge} {count : ℕ} → Laid l → Edged l es count → Sourced es count
+edged_sourced laid k =
+    record { few = k.few; froms = λ i h. let f = k.froms i h in let p = laid.few in omega arith }
 
-pub known_sourced : {l : Layout} {v : View} {es : List Edge} {count : ℕ} → Known l v es count → Sourced es count
-known_sourced k =
-    record { few = k.edges; froms = λ i h. let f = k.froms i h in let p = k.laid.few in omega arith }
+-- what is known of a view, of a layout and edges, and of all together
+pub known_gains : {l : Layout} {v : View} {es : List Edge} {count : ℕ} → Known l v es count → Gains l v
+known_gains k = record { entered = k.entered; staying = k.staying }
+
+pub known_of : {l : Layout} {v : View} {es : List Edge} {count : ℕ} → Laid l → Edged l es count → Gains l v → Known l v es count
+known_of laid e k =
+    record { laid = laid; entered = k.entered; staying = k.staying; edges = e.few; froms = e.froms; tos = e.tos; fits = e.fits }
 
 pub clear_ready : (l : Layout) (n : ℕ) (t u : List ℤ) → u ≡ cleared t ((n + 1) * l.row) ((n + 1) * l.row + l.row) → Ready t l n → Ready u l n
 clear_ready l n t u f r = rw f (ready-kept (marked-kept ((n + 1) * l.row) t ((n + 1) * l.row) _ (omega arith)) r)
@@ -407,13 +399,3 @@ whole-rows t l h o = record { inside = o.inside; bounded = record { at = λ k lo
         let s = o.bounded (k / l.row) (k % l.row) (omega arith) (mod-lt k some) in
         let z : cell_at t (k / l.row * l.row + k % l.row) ≡ cell_at t k = ap (cell_at t) d in
         sized_more (omega arith) (rw z at s)
-
--- cells that are marks or within the limit of row 0 are within every row's
-pub whole_from : (t : List ℤ) (l : Layout) → cells_in l ≤ length t → ((i : ℕ) → i < cells_in l → Sized 32760000000 (cell_at t i)) → Whole t l
-whole_from t l inside o =
-    record {
-      inside = inside;
-      bounded = λ n i low h.
-          let f = row_inside l n (omega arith) in
-          sized_more (omega arith) (o (n * l.row + i) (omega arith));
-    }

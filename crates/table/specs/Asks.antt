@@ -1,5 +1,5 @@
 -- What the functions ask of a layout, a view, edges and a table.
-use Rattle.std.specs.Prelude.{ℕ, ◌+◌, ◌*◌, ◌^◌, ◌≤◌, ◌<◌, ◌≡◌, true, List, ◌⊎◌, length, get_or, ℤ, nat_abs}
+use Rattle.std.specs.Prelude.{ℕ, ◌+◌, ◌*◌, ◌^◌, ◌≤◌, ◌<◌, ◌≡◌, true, List, Option, Some, None, ◌⊎◌, length, ℤ, nat_abs}
 use Rattle.std.specs.Int.Signed.{lt_z}
 use Rattle.weighting.specs.Cell.{mark}
 use Rattle.pattern.specs.declared.Edge.{Edge}
@@ -9,7 +9,8 @@ use Rattle.cells.specs.Layout.{cells_in, Laid}
 use Rattle.cells.specs.Index.{Within}
 use Rattle.table.specs.declared.View.{View}
 use Rattle.table.specs.declared.Spot.{Spot}
-use Rattle.steps.specs.Steps.{edge_in, Fit, Steps}
+use Rattle.table.specs.declared.Block.{Block}
+use Rattle.steps.specs.Steps.{edge_in, Fit}
 use Rattle.table.specs.Moves.{cell_at, gain_at}
 
 -- z is the mark, or at most k in size.
@@ -29,6 +30,11 @@ pub record Known (l : Layout) (v : View) (es : List Edge) (count : ℕ) : Type 0
   pub tos : (i : ℕ) → i < count → (edge_in es i).to < l.places
   pub fits : (i : ℕ) → i < count → Fit (edge_in es i)
 
+-- Each gain of a view is the mark or at most 8,000,000 in size.
+pub record Gains (l : Layout) (v : View) : Type 0 where
+  pub entered : (p : ℕ) → p < l.places → Sized 8000000 (gain_at v.entered p)
+  pub staying : (p : ℕ) → p < l.places → Sized 8000000 (gain_at v.staying p)
+
 -- The table has all cells, and a cell of length n holds the mark or a worth of at most 32,760,000,000 + n × 8,000,000
 -- in size. A tick leaves it so.
 pub record Whole (t : List ℤ) (l : Layout) : Type 0 where
@@ -45,40 +51,20 @@ pub record Filed (t : List ℤ) (l : Layout) : Type 0 where
   pub laid : Laid l
   pub inside : cells_in l ≤ length t
 
--- ---- the edges, once for all ticks of a call
-
--- Each edge leaves one of 16 places.
-pub record Sourced (es : List Edge) (count : ℕ) : Type 0 where
-  pub few : count ≤ 32
-  pub froms : (i : ℕ) → i < count → (edge_in es i).from < 16
-
--- b is the first edge from a on that leaves p, or `count`.
-pub record Hop (es : List Edge) (count p a b : ℕ) : Type 0 where
-  pub above : a ≤ b
-  pub below : b ≤ count
-  pub skips : (j : ℕ) → a ≤ j → j < b → (edge_in es j).from ≡ p → ⊥
-  pub lands : b < count → (edge_in es b).from ≡ p
-
--- The links lead through the edges out of each place.
-pub record Linked (es : List Edge) (count : ℕ) (links : List ℕ) : Type 0 where
-  pub firsts : (p : ℕ) → p < 16 → Hop es count p 0 (get_or links (32 + p) 0)
-  pub nexts : (i : ℕ) → i < count → Hop es count (edge_in es i).from (i + 1) (get_or links i 0)
-
--- The edges can be gone through place by place, each by its step.
-pub record Routed (es : List Edge) (count : ℕ) (links steps : List ℕ) : Type 0 where
-  pub linked : Linked es count links
-  pub made : Steps es count steps
-
 -- ---- the worths of a block
 
--- r is the first cell from k on of the block at `a`, of m cells, that holds a worth, or m with the mark.
-pub record Occupied (t : List ℤ) (a m k : ℕ) (r : Spot) : Type 0 where
+-- r is the first cell from k on of the block at `a`, of m cells, that holds a worth, and this worth.
+pub record Held (t : List ℤ) (a m k : ℕ) (r : Spot) : Type 0 where
   pub above : k ≤ r.cell
-  pub below : r.cell ≤ m
+  pub below : r.cell < m
   pub skips : (j : ℕ) → k ≤ j → j < r.cell → cell_at t (a + j) ≡ mark
-  pub holds : r.cell < m → lt_z mark (cell_at t (a + r.cell)) ≡ true
-  pub is : r.cell < m → r.worth ≡ cell_at t (a + r.cell)
-  pub none : r.cell ≡ m → r.worth ≡ mark
+  pub holds : lt_z mark (cell_at t (a + r.cell)) ≡ true
+  pub is : r.worth ≡ cell_at t (a + r.cell)
+
+-- r is this cell, or none if there are only marks from cell k on.
+abbrev pub Occupied : List ℤ → (a m k : ℕ) → Option Spot → Type 0
+Occupied t a m k (Some r) = Held t a m k r
+Occupied t a m k None = (j : ℕ) → k ≤ j → j < m → cell_at t (a + j) ≡ mark
 
 -- ---- within a tick
 
@@ -90,37 +76,28 @@ Empty t a n = (k : ℕ) → k < n → cell_at t (a + k) ≡ mark
 pub record Bounded (t : List ℤ) (a n : ℕ) : Type 0 where
   pub at : (k : ℕ) → k < n → Sized (2 ^ 60) (cell_at t (a + k))
 
--- The edges lead into the layout, and can be gone through.
-pub record Edges (l : Layout) (es : List Edge) (count : ℕ) (links steps : List ℕ) : Type 0 where
-  pub few : count ≤ 32
-  pub tos : (i : ℕ) → i < count → (edge_in es i).to < l.places
-  pub routed : Routed es count links steps
-
 -- A worth with these clocks can be moved into row n + 1.
 pub record Moving (t : List ℤ) (l : Layout) (n : ℕ) (cs : Clocks) : Type 0 where
-  pub laid : Laid l
   pub low : n < l.high
   pub inside : cells_in l ≤ length t
   pub within : Within l.radices cs
 
--- The worth v of a run of length n in place p can stay there.
-pub record Staying (t : List ℤ) (l : Layout) (g v : ℤ) (n p : ℕ) : Type 0 where
-  pub laid : Laid l
-  pub gain : nat_abs g ≤ 8000000
+-- The worth v of a run in the block can stay there.
+pub record Staying (t : List ℤ) (l : Layout) (b : Block) (v : ℤ) : Type 0 where
+  pub gain : nat_abs b.gain ≤ 8000000
   pub worth : nat_abs v ≤ 2 ^ 60
-  pub low : n < l.high
-  pub place : p < l.places
+  pub low : b.len < l.high
+  pub place : b.place < l.places
   pub inside : cells_in l ≤ length t
 
--- The cells of the block at `at`, of length n and place p, can be moved.
-pub record Passing (t : List ℤ) (l : Layout) (g : ℤ) (n p at : ℕ) : Type 0 where
-  pub laid : Laid l
-  pub gain : Sized 8000000 g
-  pub low : n < l.high
-  pub place : p < l.places
-  pub apart : at + l.block ≤ (n + 1) * l.row
+-- The cells of the block can be moved.
+pub record Passing (t : List ℤ) (l : Layout) (b : Block) : Type 0 where
+  pub gain : Sized 8000000 b.gain
+  pub low : b.len < l.high
+  pub place : b.place < l.places
+  pub apart : b.start + l.block ≤ (b.len + 1) * l.row
   pub inside : cells_in l ≤ length t
-  pub bounded : Bounded t at l.block
+  pub bounded : Bounded t b.start l.block
 
 -- Row n can be moved.
 pub record Ready (t : List ℤ) (l : Layout) (n : ℕ) : Type 0 where
@@ -130,7 +107,6 @@ pub record Ready (t : List ℤ) (l : Layout) (n : ℕ) : Type 0 where
 
 -- The cells of length n in place p can be moved.
 pub record Placing (t : List ℤ) (l : Layout) (g h : ℤ) (n p : ℕ) : Type 0 where
-  pub laid : Laid l
   pub entered : Sized 8000000 g
   pub staying : Sized 8000000 h
   pub place : p < l.places

@@ -226,7 +226,7 @@ module _ (l : Layout) (w : Weighing) (es : List Edge) (count : ℕ) (g : ℤ) (n
       offers-each w j ((n + 1) * l.row) (λ k. visit_of l w es count g n p at k (clocks_at l.radices k)) (λ k. visit_kept l w n es count g p at k (clocks_at l.radices k)) (Visits l w es count g n p at t j) u m
       (λ k z i z-kept. let both = kept_trans kept z-kept in let e = both.long in visit_offers k z (both.same (at + k) (omega arith)) (o.at k i) (omega arith))
 
-pass_offers : (l : Layout) (w : Weighing) (es : List Edge) (count : ℕ) (g : ℤ) (n p at : ℕ) (t u : List ℤ) (j : ℕ) → Kept ((n + 1) * l.row) t u → Passing t l g n p at → j < length t → Offers w u (pass_of l w es count g n p at u) j (Any l.block (Visits l w es count g n p at t j))
+pass_offers : (l : Layout) (w : Weighing) (es : List Edge) (count : ℕ) (g : ℤ) (n p at : ℕ) (t u : List ℤ) (j : ℕ) → Kept ((n + 1) * l.row) t u → Passing t l (record { len = n; place = p; start = at; gain = g }) → j < length t → Offers w u (pass_of l w es count g n p at u) j (Any l.block (Visits l w es count g n p at t j))
 unfolding pass_of
 pass_offers l w es count g n p at t u j kept a low = by (lt_z mark g) refl
   where

@@ -33,6 +33,8 @@ use Rattle.book.specs.Automaton.{held, held_automaton}
 use Rattle.book.proofs.Ceilings.{held-by_radices}
 use Rattle.book.proofs.Members.{all_member, at_member}
 use Rattle.steps.specs.Steps.{edge_in, Fit}
+use Rattle.table.specs.Edges.{Edged}
+use Rattle.table.proofs.Steps.{known_of}
 use Rattle.table_laws.specs.Patterns.{AboutPattern, KnownPattern, ClosedPattern}
 use Rattle.table_laws.proofs.States.{Cell, seen-in, in-seen, edge_in_lem, in-edges}
 
@@ -124,18 +126,21 @@ edge-fits clocks places e few h =
     let q = edge-parts clocks places e h in
     record { guards = q.guards.long; resets = q.resets.long; clocks = known-four clocks few (guards_of e) q.guards.front }
 
-pub known_pattern : KnownPattern
+-- its edges lead from places to places, and ask about the four clocks
+pub edged_pattern : (p : Pattern) → sound_of p ≡ true → (longest : ℕ) → Edged (layout_of p longest) p.edges p.edgecount
 unfolding layout_of
-known_pattern p h longest short v entered staying =
+edged_pattern p h longest =
     record {
-      laid = layout-laid p longest h short;
-      entered = entered;
-      staying = staying;
-      edges = (parts p h).edges.few;
+      few = (parts p h).edges.few;
       froms = λ i low. (edge-parts p.clocks p.placecount (edge_in p.edges i) (edge-sound p h i low)).from_place;
       tos = λ i low. (edge-parts p.clocks p.placecount (edge_in p.edges i) (edge-sound p h i low)).to_place;
       fits = λ i low. edge-fits p.clocks p.placecount (edge_in p.edges i) (parts p h).few_clocks (edge-sound p h i low);
     }
+
+pub known_pattern : KnownPattern
+unfolding layout_of
+known_pattern p h longest short v entered staying =
+    known_of (layout-laid p longest h short) (edged_pattern p h longest) (record { entered = entered; staying = staying })
 
 -- ---- no move leaves the cells
 

@@ -6,7 +6,8 @@ use native.Mathlib.Nat.{mul-le-mul_right}
 use mathlib.Core.Path.{◌≡◌, refl, sym, ap, subst, ◌∙◌}
 use mathlib.Core.Bool.{Bool, true, false, cond, ◌&&◌}
 use mathlib.Core.Logic.{◌⊎◌, inl, inr, ⊎_elim}
-use mathlib.Core.Option.{none, some, some-injective}
+use mathlib.Core.Option.{some, some-injective}
+use Rattle.std.specs.Prelude.{Option, Some, None}
 use mathlib.Core.List.{List}
 use borrow.Author.Tests.{eqb-true, eq-eqb, ltb-true, ltb-false, lt-ltb, le-ltb}
 use lib.Dec.{T, eqb, ltb}
@@ -38,7 +39,7 @@ use Rattle.table.specs.declared.View.{View}
 use Rattle.table.specs.declared.report.Report.{Report}
 use Rattle.steps.specs.Steps.{edge_in}
 use Rattle.table.specs.Moves.{cell_at, each, gain_at}
-use Rattle.table.specs.Reports.{no_report, noted, told_move, told_leave, told_visit, told_visits, told_pass, told_place, told_places, tells_at, told_row, told_rows, told_of}
+use Rattle.table.specs.Reports.{noted, told_move, told_leave, told_visit, told_visits, told_pass, told_place, told_places, tells_at, told_row, told_rows, told_of}
 use Rattle.table.specs.Asks.{Sized, Known, Ticking, Bounded, Ready}
 use Rattle.table.proofs.Steps.{sized_mark, pass_asks, bounded-from, whole-rows}
 use Rattle.table_laws.specs.Offers.{Moves, stage_of, gains_of, Goes}
@@ -51,7 +52,7 @@ use Rattle.table_laws.proofs.Tick.{edge-state, stay-state, to-walks, of_walks}
 -- ---- notes
 
 -- the report r' is the best of what r was the best of, and of what has Q, where none of the former is shorter than n
-abbrev Notes : Weighing → (r r' : Report) → ℕ → (ℤ × ℕ → Type 0) → Type 1
+abbrev Notes : Weighing → (r r' : Option Report) → ℕ → (ℤ × ℕ → Type 0) → Type 1
 Notes w r r' n Q =
     (P : ℤ × ℕ → Type 0) → ((q : ℤ × ℕ) → P q → n ≤ q.1) → IsBest (shortest (weighting_of w).order) P (result_of r)
     → IsBest (shortest (weighting_of w).order) (λ q. P q ⊎ Q q) (result_of r')
@@ -82,18 +83,18 @@ any_more m Q q =
     ⊎_elim (λ z. record { which = z.which; low = (let y = z.low in omega arith); has = z.has }) (λ z. record { which = m; low = omega arith; has = z })
 
 module _ (w : Weighing) where
-  notes_none : (r : Report) (n : ℕ) (Q : ℤ × ℕ → Type 0) → ((q : ℤ × ℕ) → Q q → ⊥) → Notes w r r n Q
+  notes_none : (r : Option Report) (n : ℕ) (Q : ℤ × ℕ → Type 0) → ((q : ℤ × ℕ) → Q q → ⊥) → Notes w r r n Q
   notes_none r n Q never P low h =
       IsBest_iff (shortest (weighting_of w).order) (λ q p. inl p) (λ q. ⊎_elim (λ p. p) (λ z. absurd (never q z))) (result_of r) h
 
-  notes_then : (r r' r'' : Report) (n : ℕ) (Q R : ℤ × ℕ → Type 0) → ((q : ℤ × ℕ) → Q q → n ≤ q.1) → Notes w r r' n Q → Notes w r' r'' n R → Notes w r r'' n (λ q. Q q ⊎ R q)
+  notes_then : (r r' r'' : Option Report) (n : ℕ) (Q R : ℤ × ℕ → Type 0) → ((q : ℤ × ℕ) → Q q → n ≤ q.1) → Notes w r r' n Q → Notes w r' r'' n R → Notes w r r'' n (λ q. Q q ⊎ R q)
   notes_then r r' r'' n Q R long a b P low h =
       IsBest_iff (shortest (weighting_of w).order)
       (λ q. ⊎_elim (⊎_elim inl (λ z. inr (inl z))) (λ z. inr (inr z)))
       (λ q. ⊎_elim (λ p. inl (inl p)) (⊎_elim (λ z. inl (inr z)) inr))
       (result_of r'') (b (λ q. P q ⊎ Q q) (λ q. ⊎_elim (low q) (long q)) (a P low h))
 
-  notes_as : (r r' : Report) (n : ℕ) (Q R : ℤ × ℕ → Type 0) → ((q : ℤ × ℕ) → Q q → R q) → ((q : ℤ × ℕ) → R q → Q q) → Notes w r r' n Q → Notes w r r' n R
+  notes_as : (r r' : Option Report) (n : ℕ) (Q R : ℤ × ℕ → Type 0) → ((q : ℤ × ℕ) → Q q → R q) → ((q : ℤ × ℕ) → R q → Q q) → Notes w r r' n Q → Notes w r r' n R
   notes_as r r' n Q R to from a P low h =
       IsBest_iff (shortest (weighting_of w).order)
       (λ q. ⊎_elim inl (λ z. inr (to q z)))
@@ -101,11 +102,11 @@ module _ (w : Weighing) where
       (result_of r') (a P low h)
 
   -- only where b holds
-  notes_if : (b : Bool) (r r' : Report) (n : ℕ) (Q : ℤ × ℕ → Type 0) → (b ≡ true → Notes w r r' n Q) → Notes w r (cond b r' r) n (λ q. (b ≡ true) × Q q)
+  notes_if : (b : Bool) (r r' : Option Report) (n : ℕ) (Q : ℤ × ℕ → Type 0) → (b ≡ true → Notes w r r' n Q) → Notes w r (cond b r' r) n (λ q. (b ≡ true) × Q q)
   notes_if true r r' n Q h = notes_as r r' n Q (λ q. (◌≡◌ {A = Bool} true true) × Q q) (λ q z. (refl, z)) (λ q z. z.1) (h refl)
   notes_if false r r' n Q h = notes_none r n (λ q. (◌≡◌ {A = Bool} false true) × Q q) (λ q z. true-false z.0 refl)
 
-  notes_each : (f : ℕ → Report → Report) (Q : ℕ → ℤ × ℕ → Type 0) (n m : ℕ) (r : Report) → ((i : ℕ) (q : ℤ × ℕ) → Q i q → n ≤ q.1) → ((i : ℕ) (u : Report) → i < m → Notes w u (f i u) n (Q i)) → Notes w r (each f m r) n (Any m Q)
+  notes_each : (f : ℕ → Option Report → Option Report) (Q : ℕ → ℤ × ℕ → Type 0) (n m : ℕ) (r : Option Report) → ((i : ℕ) (q : ℤ × ℕ) → Q i q → n ≤ q.1) → ((i : ℕ) (u : Option Report) → i < m → Notes w u (f i u) n (Q i)) → Notes w r (each f m r) n (Any m Q)
   unfolding each
   notes_each f Q n zero r long h = notes_none r n (Any zero Q) (λ q z. let y = z.low in omega arith)
   notes_each f Q n (suc m) r long h =
@@ -123,39 +124,30 @@ module _ (w : Weighing) where
       let f = z.1 in
       no_worse v n q (subst (λ (x : ℤ). T ((weighting_of w).order.at_least v x)) (sym z.0) ((weighting_of w).order.self v)) (omega arith)
 
-  notes_one : (r : Report) (v : ℤ) (n : ℕ) → 0 < n → Notes w r (noted w r v n) n (Here v n)
+  notes_one : (r : Option Report) (v : ℤ) (n : ℕ) → Notes w r (noted w r v n) n (Here v n)
   unfolding noted
-  notes_one r v n some-n P low h = by (ltb 0 r.length) refl ((weighting_of w).order.at_least v r.score) refl
+  notes_one None v n P low h = (inr (refl, refl), λ q. ⊎_elim (λ p. absurd (h q p)) (here-same v n q))
+  notes_one (Some r) v n P low h = by ((weighting_of w).order.at_least v r.score) refl
     where
       new : Report
       new = record { score = v; length = n }
 
-      told : ltb 0 n ≡ true
-      told = lt-ltb 0 n some-n
-
-      by : (b : Bool) → ltb 0 r.length ≡ b → (c : Bool) → (weighting_of w).order.at_least v r.score ≡ c → IsBest (shortest (weighting_of w).order) (λ q. P q ⊎ Here v n q) (result_of (cond b (cond c new r) new))
-      by false f c g =
-          let nothing : IsBest (shortest (weighting_of w).order) P none = rw f at h in
-          rw told (inr (refl, refl), λ q. ⊎_elim (λ p. absurd (nothing q p)) (here-same v n q))
-      by true f true g =
-          let best : IsBest (shortest (weighting_of w).order) P (some (r.score, r.length)) = rw f at h in
-          rw told (
-            inr (refl, refl),
-            λ q. ⊎_elim
-                (λ p. no_worse v n q ((weighting_of w).order.through v r.score q.0 (true_T _ g) (shortest-out (weighting_of w).order (r.score, r.length) q (best.1 q p)).0) (low q p))
-                (here-same v n q),
-          )
-      by true f false g =
-          let best : IsBest (shortest (weighting_of w).order) P (some (r.score, r.length)) = rw f at h in
-          rw f (
-            inl best.0,
-            λ q. ⊎_elim (best.1 q) (λ (z : Here v n q).
-                let e : v ≡ q.0 = sym z.0 in
-                shortest-in (weighting_of w).order (r.score, r.length) q (
-                  subst (λ (x : ℤ). T ((weighting_of w).order.at_least r.score x)) e ((weighting_of w).order.either v r.score (false_T _ g)),
-                  λ y. absurd (true-false (subst (λ (x : ℤ). (weighting_of w).order.at_least x r.score ≡ true) (sym e) (T_true _ y)) g),
-                )),
-          )
+      by : (c : Bool) → (weighting_of w).order.at_least v r.score ≡ c → IsBest (shortest (weighting_of w).order) (λ q. P q ⊎ Here v n q) (result_of (cond c (Some new) (Some r)))
+      by true g = (
+        inr (refl, refl),
+        λ q. ⊎_elim
+            (λ p. no_worse v n q ((weighting_of w).order.through v r.score q.0 (true_T _ g) (shortest-out (weighting_of w).order (r.score, r.length) q (h.1 q p)).0) (low q p))
+            (here-same v n q),
+      )
+      by false g = (
+        inl h.0,
+        λ q. ⊎_elim (h.1 q) (λ (z : Here v n q).
+            let e : v ≡ q.0 = sym z.0 in
+            shortest-in (weighting_of w).order (r.score, r.length) q (
+              subst (λ (x : ℤ). T ((weighting_of w).order.at_least r.score x)) e ((weighting_of w).order.either v r.score (false_T _ g)),
+              λ y. absurd (true-false (subst (λ (x : ℤ). (weighting_of w).order.at_least x r.score ≡ true) (sym e) (T_true _ y)) g),
+            )),
+      )
 
 -- ---- edges, a cell, a block
 
@@ -166,14 +158,14 @@ record Goes_on (tells : List Bool) (n p : ℕ) (cs : Clocks) (x : ℤ) (e : Edge
   ends : get_or tells e.to false ≡ true
   here : Here x (n + 1) q
 
-leave_notes : (w : Weighing) (tells : List Bool) (n p : ℕ) (cs : Clocks) (x : ℤ) (e : Edge) (r : Report) → Notes w r (told_leave w tells n p cs x e r) (n + 1) (Goes_on tells n p cs x e)
+leave_notes : (w : Weighing) (tells : List Bool) (n p : ℕ) (cs : Clocks) (x : ℤ) (e : Edge) (r : Option Report) → Notes w r (told_leave w tells n p cs x e r) (n + 1) (Goes_on tells n p cs x e)
 unfolding told_leave told_move
 leave_notes w tells n p cs x e r =
     notes_as w r (told_leave w tells n p cs x e r) (n + 1) (λ q. (eqb e.from p ≡ true) × ((guards_hold cs e && get_or tells e.to false ≡ true) × Here x (n + 1) q)) (Goes_on tells n p cs x e)
     (λ q z. let b = both (guards_hold cs e) (get_or tells e.to false) z.1.0 in record { from = eqb-true e.from p z.0; goes = b.0; ends = b.1; here = z.1.1 })
     (λ q z. (eq-eqb e.from p z.from, (rw (z.goes, z.ends), z.here)))
     (notes_if w (eqb e.from p) r (told_move w tells n cs x e r) (n + 1) (λ q. (guards_hold cs e && get_or tells e.to false ≡ true) × Here x (n + 1) q)
-    (λ a. notes_if w (guards_hold cs e && get_or tells e.to false) r (noted w r x (n + 1)) (n + 1) (Here x (n + 1)) (λ b. notes_one w r x (n + 1) (omega arith))))
+    (λ a. notes_if w (guards_hold cs e && get_or tells e.to false) r (noted w r x (n + 1)) (n + 1) (Here x (n + 1)) (λ b. notes_one w r x (n + 1))))
 
 -- cell k of the block at `at`, of length n and place p, goes along an edge at whose end a run may end
 record Leaving (l : Layout) (w : Weighing) (es : List Edge) (count : ℕ) (tells : List Bool) (g : ℤ) (n p at : ℕ) (t : List ℤ) (k : ℕ) (q : ℤ × ℕ) : Type 0 where
@@ -186,7 +178,7 @@ record Leaving (l : Layout) (w : Weighing) (es : List Edge) (count : ℕ) (tells
   long : q.1 ≡ n + 1
 
 module _ (l : Layout) (w : Weighing) (es : List Edge) (count : ℕ) (tells : List Bool) (g : ℤ) (n p at : ℕ) (t : List ℤ) where
-  visit_notes : held_in g ≡ some g → (k : ℕ) (r : Report) → Sized (2 ^ 60) (cell_at t (at + k)) → Notes w r (told_visit l w es count tells g n p at k (clocks_at l.radices k) t r) (n + 1) (Leaving l w es count tells g n p at t k)
+  visit_notes : held_in g ≡ some g → (k : ℕ) (r : Option Report) → Sized (2 ^ 60) (cell_at t (at + k)) → Notes w r (told_visit l w es count tells g n p at k (clocks_at l.radices k) t r) (n + 1) (Leaving l w es count tells g n p at t k)
   unfolding told_visit
   visit_notes gives k r sized = by (lt_z mark (cell_at t (at + k))) refl
     where
@@ -234,7 +226,7 @@ module _ (l : Layout) (w : Weighing) (es : List Edge) (count : ℕ) (tells : Lis
           })
           (notes_each w (λ i. told_leave w tells n p cs x (edge_in es i)) Q (n + 1) count r (λ i q z. let y = z.here.1 in omega arith) (λ i u h. leave_notes w tells n p cs x (edge_in es i) u))
 
-  pass_notes : (r : Report) → Sized 8000000 g → Bounded t at l.block → Notes w r (told_pass l w es count tells g n p at t r) (n + 1) (Any l.block (Leaving l w es count tells g n p at t))
+  pass_notes : (r : Option Report) → Sized 8000000 g → Bounded t at l.block → Notes w r (told_pass l w es count tells g n p at t r) (n + 1) (Any l.block (Leaving l w es count tells g n p at t))
   unfolding told_pass
   pass_notes r small sized =
       notes_as w r (told_pass l w es count tells g n p at t r) (n + 1) (λ q. (lt_z mark g ≡ true) × Any l.block (Leaving l w es count tells g n p at t) q) (Any l.block (Leaving l w es count tells g n p at t))
@@ -264,14 +256,14 @@ module _ (l : Layout) (w : Weighing) (v : View) (es : List Edge) (count : ℕ) (
       by true y = inl y
       by false y = inr y
 
-  row_notes : (tells : List Bool) (n : ℕ) (r : Report) → Ready t l n → Notes w r (told_places l w v es count tells n l.places t r) (n + 1) (Any l.places (Placed-on tells n))
+  row_notes : (tells : List Bool) (n : ℕ) (r : Option Report) → Ready t l n → Notes w r (told_places l w v es count tells n l.places t r) (n + 1) (Any l.places (Placed-on tells n))
   unfolding told_place
   row_notes tells n r ready =
       notes_each w (λ p. told_place l w es count tells (gain_at v.entered p) (gain_at v.staying p) n p t) (Placed-on tells n) (n + 1) l.places r
       (λ p q z. let y = z.leaves.has.long in omega arith)
       place_notes
     where
-      place_notes : (p : ℕ) (u : Report) → p < l.places → Notes w u (told_place l w es count tells (gain_at v.entered p) (gain_at v.staying p) n p t u) (n + 1) (Placed-on tells n p)
+      place_notes : (p : ℕ) (u : Option Report) → p < l.places → Notes w u (told_place l w es count tells (gain_at v.entered p) (gain_at v.staying p) n p t u) (n + 1) (Placed-on tells n p)
       place_notes p u h =
           notes_as w u (told_place l w es count tells (gain_at v.entered p) (gain_at v.staying p) n p t u) (n + 1)
           (λ q. Any l.block (Leaving l w es count tells (gain_at v.entered p) n p (block_at l n 0 p) t) q ⊎ Any l.block (Leaving l w es count tells (gain_at v.staying p) n p (block_at l n 1 p) t) q)
@@ -294,7 +286,7 @@ module _ (l : Layout) (w : Weighing) (v : View) (es : List Edge) (count : ℕ) (
     short : which < l.high
     rowed : Rowed ends low which q
 
-  rows_best : (ends : List Bool) (low n : ℕ) (r : Report) → n ≤ l.high → ((m : ℕ) → m < l.high → Ready t l m) → IsBest (shortest (weighting_of w).order) (Upward ends low n) (result_of r) → IsBest (shortest (weighting_of w).order) (Upward ends low 0) (result_of (told_rows l w v es count ends low n t r))
+  rows_best : (ends : List Bool) (low n : ℕ) (r : Option Report) → n ≤ l.high → ((m : ℕ) → m < l.high → Ready t l m) → IsBest (shortest (weighting_of w).order) (Upward ends low n) (result_of r) → IsBest (shortest (weighting_of w).order) (Upward ends low 0) (result_of (told_rows l w v es count ends low n t r))
   unfolding told_rows
   rows_best ends low zero r short ready h = h
   rows_best ends low (suc n) r short ready h =
@@ -434,7 +426,7 @@ told-is-report l w v es count starts ends A about Q low some-low t a all U seen 
     (to-into l w v es count starts ends A about low t a all U seen g viewed)
     (λ q. of_into l w v es count starts ends A about low t a all U seen g viewed q some-low)
     (result_of (told_of l w v es count ends low t))
-    (rows_best l w v es count a.known t ends low l.high no_report (omega arith) ready (λ q z. let x = z.from in let y = z.short in omega arith)))
+    (rows_best l w v es count a.known t ends low l.high None (omega arith) ready (λ q z. let x = z.from in let y = z.short in omega arith)))
     (offers_best (weighting_of w) A Q l.high all g U low some-low)
   where
     ready : (m : ℕ) → m < l.high → Ready t l m

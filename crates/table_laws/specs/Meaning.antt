@@ -1,5 +1,7 @@
 -- A table in the terms of the crate walks: its cells are states of the pattern's automaton with held clocks.
 use Rattle.std.specs.Prelude.{ℕ, zero, suc, ◌<◌, ◌≤◌, ◌≡◌, Bool, false, cond, ◌&&◌, eqb, ltb, length, get_or, take, ℤ}
+use Rattle.std.specs.Prelude as prelude
+use Rattle.std.specs.Prelude.{Some, None}
 use Rattle.std.proofs.Math.Option.{Option, none, some}
 use mathlib.Core.List.{List, [], ◌∷◌, ◌++◌, map, Memᴰ}
 use Rattle.weighting.specs.Cell.{held_in}
@@ -42,9 +44,10 @@ table_of l t s = held_in (cell_at t (index_at l s))
 abbrev pub view_of : View → TickView ℤ
 view_of v f p = held_in (gain_at (gains_of v f) p)
 
--- What a report says: a score and a length, or nothing if the length is 0.
-abbrev pub result_of : Report → Option (ℤ × ℕ)
-result_of r = cond (ltb 0 r.length) (some (r.score, r.length)) none
+-- What a report says: a score and a length, or nothing.
+abbrev pub result_of : prelude.Option Report → Option (ℤ × ℕ)
+result_of (Some r) = some (r.score, r.length)
+result_of None = none
 
 -- The automaton that a table is about: its places, its edges in use, and clocks that are held after each tick.
 pub record About (A : Automaton Clocks Edge) (l : Layout) (es : List Edge) (count : ℕ) (starts ends : List Bool) : Type 0 where

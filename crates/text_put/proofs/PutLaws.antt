@@ -7,12 +7,14 @@ use native.Mathlib.Numerals.{add-one, unary_clauses}
 use native.Mathlib.Nat.{add-zero, suc-add, zero-sub, suc-sub-suc}
 use lib.ListN.{length, take, drop, set, get_or, length-append, length-take, length-drop, take-append-drop, drop_of_length-le}
 use lib.Seq.{take_all, take-nil, drop-nil, set_split}
-use Rattle.pattern.proofs.ListLaws.{take-in_use, take_more}
+use Rattle.pattern.proofs.ListLaws.{take_more}
 use Rattle.pattern_text.specs.Bytes.{Bytes}
 use Rattle.pattern_text.specs.Form.{write_many}
 use Rattle.pattern_text.specs.Numeral.{decimal}
 use Rattle.pattern_text.proofs.NumeralLaws.{decimal-small, decimal_large}
-use Rattle.text_put.specs.Put.{fitting, put_at, Put}
+use Rattle.std.specs.Borrow.{MutBor}
+use Rattle.text_put.specs.declared.Writer.{Writer}
+use Rattle.text_put.specs.Put.{fitting, put_at, Put, Begins, Puts}
 
 -- ---- the buffer after a put, byte by byte
 
@@ -108,33 +110,39 @@ put_full b at x h =
       position = rw (none, add-zero) refl;
     }
 
--- ---- a list of bytes, one after the other
-pub put_next : {b b' b'' : Bytes} {at m n : ℕ} (xs : Bytes) (i : ℕ) → i < length xs → Put b b' at m (take i xs) → Put b' b'' m n (get_or xs i 0 ∷ []) → Put b b'' at n (take (i + 1) xs)
-put_next xs i h p q = rw (take_more i xs 0 h) (put_then p q)
+-- ---- what a writer puts
 
-pub put_all : {b b' : Bytes} {at n : ℕ} (xs : Bytes) (i : ℕ) → length xs ≤ i → Put b b' at n (take i xs) → Put b b' at n xs
-put_all xs i h p = rw (take_all i xs h) at p
+pub puts_none : (w : Writer) → Puts w w []
+puts_none w = record { same = refl; put = put-none _ _ }
 
--- ---- the values of an array's first slots, one after the other
-module _ {A : Type 0} (w : A → Bytes) where
-  many_snoc : (xs : List A) (a : A) → write_many w (xs ++ (a ∷ [])) ≡ write_many w xs ++ w a
+pub puts_then : {a b c : Writer} {xs ys : Bytes} → Puts a b xs → Puts b c ys → Puts a c (xs ++ ys)
+puts_then p q = record { same = q.same ∙ p.same; put = put_then p.put q.put }
+
+-- the first i bytes, and one more
+pub puts_next : {a b c : Writer} (xs : Bytes) (i : ℕ) → i < length xs → Puts a b (take i xs) → Puts b c (get_or xs i 0 ∷ []) → Puts a c (take (i + 1) xs)
+puts_next xs i h p q = rw (take_more i xs 0 h) (puts_then p q)
+
+-- what stands in the buffer once the writer, which began at its front, is done with it
+pub put_whole : {lent : MutBor (List ℕ)} {w w' : Writer} {after xs : Bytes} → Begins lent w → Puts w w' xs → (lent.ghost_name ≡ w'.text.ghost_name → after ≡ w'.text.now) → Put lent.now after 0 w'.at xs
+put_whole b p back = let same = sym (p.same ∙ b.same) in rw (← back same) at (rw (b.text, b.front) at p.put)
+
+-- values one after the other: the first i, and one more
+module _ {A : Type 0} (f : A → Bytes) where
+  many_snoc : (xs : List A) (a : A) → write_many f (xs ++ (a ∷ [])) ≡ write_many f xs ++ f a
   unfolding write_many
-  many_snoc [] a = append-nil (w a)
-  many_snoc (x ∷ xs) a = ap (◌++◌ (w x)) (many_snoc xs a) ∙ sym (append_assoc (w x) (write_many w xs) (w a))
+  many_snoc [] a = append-nil (f a)
+  many_snoc (x ∷ xs) a = ap (◌++◌ (f x)) (many_snoc xs a) ∙ sym (append_assoc (f x) (write_many f xs) (f a))
 
-  pub many-none : (b : Bytes) (at : ℕ) (xs : List A) → Put b b at at (write_many w (take 0 xs))
+  pub many-none : (w : Writer) (xs : List A) → Puts w w (write_many f (take 0 xs))
   unfolding write_many
-  many-none b at xs = put-none b at
+  many-none w xs = puts_none w
 
-  pub many-next : {b b' b'' : Bytes} {at m n : ℕ} (xs : List A) (i : ℕ) (d : A) → i < length xs → Put b b' at m (write_many w (take i xs)) → Put b' b'' m n (w (get_or xs i d)) → Put b b'' at n (write_many w (take (i + 1) xs))
-  many-next xs i d h p q = rw (take_more i xs d h, many_snoc) (put_then p q)
-
-  pub many-all : {b b' : Bytes} {at n : ℕ} (xs : List A) (i count size : ℕ) → length xs ≡ size → i ≡ min count size → Put b b' at n (write_many w (take i xs)) → Put b b' at n (write_many w (take count xs))
-  many-all xs i count size l e p = rw (take-in_use count size xs l) at (rw e at p)
+  pub many-next : {a b c : Writer} (xs : List A) (i : ℕ) (d : A) → i < length xs → Puts a b (write_many f (take i xs)) → Puts b c (f (get_or xs i d)) → Puts a c (write_many f (take (i + 1) xs))
+  many-next xs i d h p q = rw (take_more i xs d h, many_snoc) (puts_then p q)
 
 -- ---- a number
-pub put_last : {b b' : Bytes} {at n : ℕ} (k : ℕ) → k < 10 → Put b b' at n ((48 + k % 10) ∷ []) → Put b b' at n (decimal k)
+pub put_last : {a b : Writer} (k : ℕ) → k < 10 → Puts a b ((48 + k % 10) ∷ []) → Puts a b (decimal k)
 put_last k h p = let e : k % 10 ≡ k = omega arith in rw decimal-small (rw e at p)
 
-pub put-more : {b b' b'' : Bytes} {at m n : ℕ} (k : ℕ) → 10 ≤ k → Put b b' at m (decimal (k / 10)) → Put b' b'' m n ((48 + k % 10) ∷ []) → Put b b'' at n (decimal k)
-put-more k h p q = rw decimal_large (put_then p q)
+pub put_more : {a b c : Writer} (k : ℕ) → 10 ≤ k → Puts a b (decimal (k / 10)) → Puts b c ((48 + k % 10) ∷ []) → Puts a c (decimal k)
+put_more k h p q = rw decimal_large (puts_then p q)

@@ -1,90 +1,66 @@
-// Bytes, words and numbers put into a buffer, each at a position and answering the position after it. What does not fit
-// is left out, so that nothing here asks for room.
+// Bytes, words and numbers put into a lent buffer, one after the other. What does not fit is left out, so that nothing here asks
+// for room.
 #![tactic(auto)]
 
-ghost use Rattle.std.specs.Prelude.{◌+◌, ◌%◌, ◌≡◌, [], ◌∷◌, ◌++◌, nat_abs};
+ghost use Rattle.std.specs.Prelude.{[], ◌∷◌};
 ghost use Rattle.pattern_text.specs.Form.{write_ℤ};
 ghost use Rattle.pattern_text.specs.Numeral.{decimal};
-ghost use Rattle.text_put.specs.Put.{Put};
+ghost use Rattle.text_put.specs.Put.{Puts, Begins};
 
-// One byte, where there is room for it.
-pub fn put_byte(text: &mut [u8], at: usize, byte: u8) -> usize
-    ensures { Put text.old text.new at result (byte ∷ []) }
-{
-    if at < text.len() {
-        text[at] = byte;
-        at + 1
-    } else {
-        at
+// A lent buffer, and the position where the next byte goes.
+#[derive(Drop)]
+pub struct Writer<'a> {
+    pub text: &'a mut [u8],
+    pub at: usize,
+}
+
+impl<'a> Writer<'a> {
+    // At the buffer's front.
+    pub fn new(text: &'a mut [u8]) -> Writer<'a>
+        ensures { Begins text.entry result }
+    {
+        Writer { text, at: 0 }
     }
-}
 
-// Fixed bytes.
-pub fn put_word(text: &mut [u8], at: usize, word: &[u8]) -> usize
-    ensures { Put text.old text.new at result word.now }
-{
-    let mut n = at;
-    let mut i: usize = 0;
-    while i < word.len() {
-        n = put_byte(text, n, word[i]);
-        i += 1;
+    // One byte, where there is room for it.
+    pub fn byte(&mut self, byte: u8)
+        ensures { Puts self.old self.new (byte ∷ []) }
+    {
+        if self.at < self.text.len() {
+            self.text[self.at] = byte;
+            self.at += 1;
+        }
     }
-    n
-}
 
-// The last digit of a number; `0` is the byte 48.
-fn put_digit(text: &mut [u8], at: usize, number: u64) -> usize
-    ensures { Put text.old text.new at result ((48 + number % 10) ∷ []) }
-{
-    put_byte(text, at, 48 + (number % 10) as u8)
-}
-
-// A number in base ten.
-pub fn put_number(text: &mut [u8], at: usize, number: u64) -> usize
-    ensures { Put text.old text.new at result (decimal number) }
-{
-    if number < 10 {
-        return put_digit(text, at, number);
+    // Fixed bytes.
+    pub fn word(&mut self, word: &[u8])
+        ensures { Puts self.old self.new word.now }
+    {
+        for b in word {
+            self.byte(*b);
+        }
     }
-    let n = put_number(text, at, number / 10);
-    put_digit(text, n, number)
-}
 
-// A number and a byte after it.
-pub fn put_number_and(text: &mut [u8], at: usize, number: u64, byte: u8) -> usize
-    ensures { Put text.old text.new at result (decimal number ++ (byte ∷ [])) }
-{
-    let n = put_number(text, at, number);
-    put_byte(text, n, byte)
-}
-
-// A number without its sign.
-fn magnitude(number: i64) -> u64
-    ensures { result ≡ nat_abs number }
-{
-    if number < 0 {
-        (-1 - number) as u64 + 1
-    } else {
-        number as u64
+    // A number in base ten: its last digit, after those of its tenth. Not by std's `write!`, which does not promise which
+    // bytes it puts.
+    pub fn number(&mut self, number: u64)
+        ensures { Puts self.old self.new (decimal number) }
+    {
+        // Whether digits stand before the last one.
+        let more = number >= 10;
+        if more {
+            self.number(number / 10);
+        }
+        self.byte(b'0' + (number % 10) as u8);
     }
-}
 
-// A number that may be negative.
-pub fn put_integer(text: &mut [u8], at: usize, number: i64) -> usize
-    ensures { Put text.old text.new at result (write_ℤ number) }
-{
-    let size = magnitude(number);
-    if number < 0 {
-        let n = put_byte(text, at, b'-');
-        return put_number(text, n, size);
+    // A number that may be negative.
+    pub fn integer(&mut self, number: i64)
+        ensures { Puts self.old self.new (write_ℤ number) }
+    {
+        if number < 0 {
+            self.byte(b'-');
+        }
+        self.number(number.unsigned_abs());
     }
-    put_number(text, at, size)
-}
-
-// A bound and a byte after it.
-pub fn put_bound_and(text: &mut [u8], at: usize, bound: i32, byte: u8) -> usize
-    ensures { Put text.old text.new at result (write_ℤ bound ++ (byte ∷ [])) }
-{
-    let n = put_integer(text, at, bound as i64);
-    put_byte(text, n, byte)
 }

@@ -2,7 +2,7 @@
 // begins.
 #![tactic(auto)]
 
-ghost use Rattle.std.specs.Prelude.{◌≡◌, ltb, length};
+ghost use Rattle.std.specs.Prelude.{◌≡◌, ◌-◌, ltb, length, drop};
 
 #[derive(Clone, Copy)]
 pub struct Reader<'a> {
@@ -10,37 +10,35 @@ pub struct Reader<'a> {
     pub at: usize,
 }
 
-// A reader that stands at an offset of a text.
-pub fn reader_at<'a>(text: &'a [u8], at: usize) -> Reader<'a>
-    ensures { (result.text ≡ text.entry) × (result.at ≡ at) }
-{
-    Reader { text, at }
-}
+impl<'a> Reader<'a> {
+    // A reader that stands at an offset of a text.
+    pub fn new(text: &'a [u8], at: usize) -> Reader<'a>
+        ensures { (result.text ≡ text.entry) × (result.at ≡ at) }
+    {
+        Reader { text, at }
+    }
 
-// Whether an offset lies before a text's end.
-fn before_end(text: &[u8], at: usize) -> bool
-    ensures { result ≡ ltb at (length text.now) }
-{
-    at < text.len()
-}
+    // Whether it stands before its text's end.
+    pub fn unread(self) -> bool
+        ensures { result ≡ ltb self.entry.at (length self.entry.text.now) }
+    {
+        self.at < self.text.len()
+    }
 
-// Whether a reader stands before its text's end.
-pub fn unread<'a>(r: Reader<'a>) -> bool
-    ensures { result ≡ ltb r.entry.at (length r.entry.text.now) }
-{
-    before_end(r.text, r.at)
-}
+    // What is left of the text: nothing past its end.
+    pub fn left(self) -> &'a [u8]
+        ensures { result.now ≡ drop self.entry.at self.entry.text.now }
+    {
+        self.text.get(self.at..).unwrap_or(&[])
+    }
 
-// Where a reader stands.
-pub fn standing<'a>(r: Reader<'a>) -> usize
-    ensures { result ≡ r.entry.at }
-{
-    r.at
-}
-
-// The reader at another offset.
-pub fn moved<'a>(r: Reader<'a>, at: usize) -> Reader<'a>
-    ensures { (result.text ≡ r.entry.text) × (result.at ≡ at) }
-{
-    Reader { text: r.text, at }
+    // The reader that has as much left as `rest`, what a line left of the text.
+    pub fn moved(self, rest: &[u8]) -> Reader<'a>
+        ensures { (result.text ≡ self.entry.text) × (result.at ≡ length self.entry.text.now - length rest.now) }
+    {
+        Reader {
+            text: self.text,
+            at: self.text.len().saturating_sub(rest.len()),
+        }
+    }
 }

@@ -1,5 +1,6 @@
--- Laws: words and numbers at a position.
-pub mod Position
-pub mod DigitLaws
-pub mod Rests
-pub mod Composed
+-- Laws: words and numbers at the front of a text.
+pub mod Words
+pub mod Digits
+pub mod Answered
+pub mod Integers
+pub mod Shorter

@@ -5,52 +5,56 @@
 pub mod values;
 
 use files::read_file;
-use pattern::{Counted, Guard, Kind, Pattern, Sign, Test};
+use pattern::{Guard, Kind, NO_PATTERN, Pattern, Sign, Test};
 use std::io;
 use text_vectors::writes::{fits, leaves};
-use text_vectors::{Numeral, low_byte, next_line, numeral_at, print};
+use text_vectors::{numeral, print, split_line};
 use values::{with_counts, with_edge, with_guard, with_header, with_place, with_reset, with_test};
 
+// What is behind the next byte.
+fn past(text: &[u8]) -> &[u8] {
+    text.split_first().map_or(text, |(_, rest)| rest)
+}
+
 // The numbers of a row; those that it lacks are not looked at.
-#[derive(Clone, Copy)]
-struct Numbers {
-    a: u64,
-    b: u64,
-    c: u64,
-    d: u64,
-    e: u64,
-    f: u64,
-}
-
-fn past(at: usize) -> usize {
-    if at < 1_000_000_000 { at + 1 } else { at }
-}
-
-fn behind(n: Numeral) -> usize {
-    past(n.end)
-}
-
-fn numbers_at(table: &[u8], at: usize) -> Numbers {
-    let a = numeral_at(table, at);
-    let b = numeral_at(table, behind(a));
-    let c = numeral_at(table, behind(b));
-    let d = numeral_at(table, behind(c));
-    let e = numeral_at(table, behind(d));
-    let f = numeral_at(table, behind(e));
-    Numbers {
-        a: a.value,
-        b: b.value,
-        c: c.value,
-        d: d.value,
-        e: e.value,
-        f: f.value,
+fn numbers(row: &[u8]) -> [u64; 6] {
+    let mut numbers = [0; 6];
+    let mut rest = row;
+    for number in &mut numbers {
+        let (value, behind) = numeral(rest).unwrap_or((0, rest));
+        *number = value;
+        rest = past(behind);
     }
+    numbers
+}
+
+// One conversion each, here and below: a generic one would name the type at each call.
+fn byte(n: u64) -> u8 {
+    u8::try_from(n).unwrap_or(0)
 }
 
 fn short(n: u64) -> u16 {
-    if n < 65_536 { n as u16 } else { 0 }
+    u16::try_from(n).unwrap_or(0)
 }
 
+fn bound(n: u64) -> i32 {
+    match i32::try_from(n) {
+        Ok(bound) if bound < 2_000_000_000 => bound,
+        _ => 0,
+    }
+}
+
+// The bounds below 0 that there are in the table.
+fn below_zero(n: u64) -> i32 {
+    match n {
+        1 => -1,
+        1_000_000 => -1_000_000,
+        1_000_001 => -1_000_001,
+        _ => 0,
+    }
+}
+
+// A kind's number in the table, and a sign's below: no TryFrom, since every number says one.
 fn kind(n: u64) -> Kind {
     match n {
         0 => Kind::Start,
@@ -71,137 +75,98 @@ fn sign(n: u64) -> Sign {
 
 // One place without tests and no edge: its further slots, too, would do as places and edges.
 fn bare() -> Pattern {
-    let reading = pattern_read::read(
+    pattern_read::read(
         b"(pattern margin 1 0 1 4)\n\
           (place plain)\n",
-    );
-    reading.pattern
+    )
+    .unwrap_or(NO_PATTERN)
 }
 
+// Another text than `bare`: a function for both would only take the text.
 fn usual() -> Pattern {
-    let reading = pattern_read::read(
+    pattern_read::read(
         b"(pattern margin 1 1 1 4)\n\
           (place start (< 0 15))\n\
           (place plain (> 0 5) (< 0 9))\n\
           (place end)\n\
           (edge 0 1 (< 0 3) (reset 0))\n\
           (edge 1 2 (<= 0 2) (> 0 0))\n",
-    );
-    reading.pattern
+    )
+    .unwrap_or(NO_PATTERN)
 }
 
-fn test(r: Numbers, bound: i32, band: bool, high: i32) -> Pattern {
-    let t = Test {
-        sign: sign(r.c),
-        channel: low_byte(r.d),
+// What a row says by its mark and its numbers.
+// A match on the row's mark: a table of closures would be no plainer.
+fn altered(mark: u8, numbers: [u64; 6]) -> Pattern {
+    let [a, b, c, d, e, f] = numbers;
+    let (first, second) = (a as usize, b as usize);
+    let test = |band, bound, high| Test {
+        sign: sign(c),
+        channel: byte(d),
         band,
         bound,
         high,
     };
-    with_test(usual(), r.a as usize, r.b as usize, t)
-}
-
-fn bound(n: u64) -> i32 {
-    if n < 2_000_000_000 { n as i32 } else { 0 }
-}
-
-// The bounds below 0 that there are in the table.
-fn below_zero(n: u64) -> i32 {
-    match n {
-        1 => -1,
-        1_000_000 => -1_000_000,
-        1_000_001 => -1_000_001,
-        _ => 0,
-    }
-}
-
-fn guard(r: Numbers) -> Pattern {
-    let g = Guard {
-        sign: sign(r.c),
-        clock: low_byte(r.d),
-        bound: short(r.e),
-    };
-    with_guard(usual(), r.a as usize, r.b as usize, g)
-}
-
-fn edge(r: Numbers) -> Pattern {
-    with_edge(
-        usual(),
-        r.a as usize,
-        low_byte(r.b),
-        low_byte(r.c),
-        low_byte(r.d),
-    )
-}
-
-fn header(r: Numbers) -> Pattern {
-    with_header(bare(), low_byte(r.a), low_byte(r.b), short(r.c), short(r.d))
-}
-
-// What a row says by its mark.
-fn altered(mark: u8, r: Numbers) -> Pattern {
     match mark {
-        b'h' => header(r),
-        b'c' => with_counts(bare(), low_byte(r.a), low_byte(r.b)),
-        b'p' => with_place(usual(), r.a as usize, kind(r.b), low_byte(r.c)),
-        b't' => test(r, bound(r.e), false, 0),
-        b'm' => test(r, below_zero(r.e), false, 0),
-        b'w' => test(r, bound(r.e), false, bound(r.f)),
-        b'b' => test(r, bound(r.e), true, bound(r.f)),
-        b'n' => test(r, below_zero(r.e), true, below_zero(r.f)),
-        b'e' => edge(r),
-        b'g' => guard(r),
-        b'r' => with_reset(usual(), r.a as usize, r.b as usize),
+        b'h' => with_header(bare(), byte(a), byte(b), short(c), short(d)),
+        b'c' => with_counts(bare(), byte(a), byte(b)),
+        b'p' => with_place(usual(), first, kind(b), byte(c)),
+        b't' => with_test(usual(), first, second, test(false, bound(e), 0)),
+        b'm' => with_test(usual(), first, second, test(false, below_zero(e), 0)),
+        b'w' => with_test(usual(), first, second, test(false, bound(e), bound(f))),
+        b'b' => with_test(usual(), first, second, test(true, bound(e), bound(f))),
+        b'n' => with_test(
+            usual(),
+            first,
+            second,
+            test(true, below_zero(e), below_zero(f)),
+        ),
+        b'e' => with_edge(usual(), first, byte(b), byte(c), byte(d)),
+        b'g' => {
+            let guard = Guard {
+                sign: sign(c),
+                clock: byte(d),
+                bound: short(e),
+            };
+            with_guard(usual(), first, second, guard)
+        }
+        b'r' => with_reset(usual(), first, second),
         _ => usual(),
     }
 }
 
-fn count_answer(p: Pattern) -> u64 {
-    match pattern::cells(p) {
-        Counted::Cells(_) => 0,
-        Counted::Refused(why) => pattern::number(why) as u64,
-    }
-}
-
-// Whether writes take the value, or refuse it: with room for its text, and with none, where a sound value is 6.
-fn written(p: Pattern, due: u64) -> bool {
-    if due == 0 {
-        fits(p) & leaves(b"", p, 0, 6)
-    } else {
-        leaves(b"", p, 8192, due) & leaves(b"", p, 0, due)
-    }
-}
-
-// Whether a count and writes answer as is due.
+// Whether a count of cells and writes take the value, or refuse it as is due: writes with room for its text, and with none, where
+// a sound value is 6.
 fn judged(p: Pattern, due: u64) -> bool {
-    (count_answer(p) == due) & written(p, due)
-}
-
-// The row's numbers, from the mark on.
-fn value_at(table: &[u8], at: usize) -> Pattern {
-    if at < table.len() {
-        altered(table[at], numbers_at(table, past(past(at))))
-    } else {
-        usual()
+    match pattern::cells(p) {
+        Ok(_) => due == 0 && fits(p) && leaves(b"", p, 0, Err(6)),
+        Err(why) => {
+            due == u64::from(u8::from(why))
+                && leaves(b"", p, 8192, Err(due))
+                && leaves(b"", p, 0, Err(due))
+        }
     }
 }
 
-// The row from `at` to `next`; a line that begins with no number is none.
-fn row(rt: &HostRuntime, table: &[u8], at: usize, next: usize) -> io::Result<()> {
-    let due = numeral_at(table, at);
-    if due.end == at {
+// A row, which is at the begin of the table's rest; a line that begins with no number is none.
+fn look(rt: &HostRuntime, line: &[u8], table: &[u8]) -> io::Result<()> {
+    let Some((due, rest)) = numeral(table) else {
         return Ok(());
-    }
-    let ok = judged(value_at(table, behind(due)), due.value);
-    print(rt, ok, table, at, next)
+    };
+    let value = match past(rest).split_first() {
+        Some((mark, rest)) => altered(*mark, numbers(past(rest))),
+        None => usual(),
+    };
+    print(rt, judged(value, due), line)
 }
 
+// No `for` over the lines: a row's numbers are looked for in all that follows it, as ever.
 fn answer_rows(rt: &HostRuntime, table: &[u8]) -> io::Result<()> {
-    let mut at: usize = 0;
-    while at < table.len() {
-        let next = next_line(table, at);
-        row(rt, table, at, next)?;
-        at = next;
+    let mut rest = table;
+    while !rest.is_empty() {
+        let (line, behind) = split_line(rest);
+        look(rt, line, rest)?;
+        rest = behind;
     }
     Ok(())
 }
@@ -210,6 +175,6 @@ fn answer_rows(rt: &HostRuntime, table: &[u8]) -> io::Result<()> {
 pub fn run(rt: &HostRuntime) -> io::Result<()> {
     println!(rt; "pattern values")?;
     let mut table = [0u8; 65536];
-    let n = read_file(rt, b"values.txt", &mut table).length;
-    answer_rows(rt, &table[..n])
+    let table = read_file(rt, b"values.txt", &mut table).unwrap_or_else(|part| part);
+    answer_rows(rt, table)
 }

@@ -9,6 +9,7 @@ use mathlib.Core.Bool.{Bool, true, false, cond, ◌||◌}
 use lib.Dec.{ltb}
 use lib.ListN.{length, take}
 use lib.IntN.{ℤ}
+use Rattle.std.specs.Prelude.{Result, Ok, Err}
 use Rattle.pattern.specs.declared.Pattern.{Pattern}
 use Rattle.pattern.specs.declared.Refusal.{Refusal}
 use Rattle.pattern.specs.declared.Refusal.TheVariants.{TextTooLong, BrokenForm, TableTooShort}
@@ -17,25 +18,21 @@ use Rattle.pattern.specs.Cells.{cells_needed}
 use Rattle.pattern_text.specs.Bytes.{Bytes}
 use Rattle.pattern_text.specs.Form.{many, write_many}
 use Rattle.pattern_text.specs.Text.{Answer, accepted, refused}
-use Rattle.pattern_read.specs.declared.Outcome.TheVariants as outcome
-use Rattle.pattern_read.specs.declared.Outcome.TheVariants.{Accepted}
 use Rattle.pattern_read.specs.Reading.{reading_of}
 use Rattle.record.specs.Record.{Book, book_of, total}
 use Rattle.record_text.specs.Piece.{RawPiece}
 use Rattle.record_text.specs.Text.{record_form, render_record, read_record, durations_of, values_of, pieces_refusal, record_refusal}
-use Rattle.record_read.specs.declared.Checked.TheVariants as checked
-use Rattle.record_read.specs.declared.Checked.TheVariants.{Sound}
 use Rattle.record_read.specs.Check.{checked_of}
 use Rattle.monitor.specs.Cells.{written}
 use Rattle.monitor.specs.State.{no_ticks}
-use Rattle.monitor.specs.Open.{unless_refused, open_refusal, open_first, open_second}
+use Rattle.monitor.specs.Open.{answer_of, open_refusal, open_first, open_second}
 use Rattle.best.specs.Best.{best_refusal, chosen_of}
-use Rattle.best.specs.Search.{chosen_by, Fit, SearchedTo, table_to}
+use Rattle.best.specs.Search.{Fit, SearchedTo, table_to}
 use Rattle.best.proofs.Whole.{fit, second_open}
 use Rattle.watch_text.specs.Shown.{heading, rows_from, best_text, shown_for}
 use Rattle.watch_steps.specs.declared.Watch.{Watch}
 use Rattle.watch_steps.specs.Watch.{book_of_text, tables_refusal, unless_cause, refusal_for, answered_with}
-use Rattle.watch_steps.specs.Steps.{rows_due, due_at, due_for, Underway, StandingAt, Standing, stage_by, start_watch, start_first, start_second, opened_watch}
+use Rattle.watch_steps.specs.Steps.{rows_due, due_at, due_for, Underway, StandingAt, Standing, start_at, stage_by, start_with, start_watch, start_first, start_second}
 use Rattle.watch_steps.proofs.Pieces.{book-is, record_sound_lem}
 
 -- a text that is not refused is that of some pieces
@@ -52,22 +49,27 @@ pieces n t e = of (read_record t) refl
     of (some rs) f = (rs, f)
 
 -- what `check` answers, by the cause
-pub checked_sound : (o : Option Refusal) → Sound ≡ checked_of o → o ≡ none
+pub checked_sound : (o : Option Refusal) → ◌≡◌ {A = Result (Unit {0}) Refusal} (Ok tt) (checked_of o) → o ≡ none
 checked_sound none e = refl
-checked_sound (some r) e = let z : ◌≡◌ {A = ℕ} 0 1 = cc in absurd (omega arith)
+checked_sound (some r) e = cc
 
-pub checked_refused : (o : Option Refusal) (r : Refusal) → checked.Refused r ≡ checked_of o → o ≡ some r
-checked_refused none r e = let z : ◌≡◌ {A = ℕ} 0 1 = cc in absurd (omega arith)
+pub checked_refused : (o : Option Refusal) (r : Refusal) → ◌≡◌ {A = Result (Unit {0}) Refusal} (Err r) (checked_of o) → o ≡ some r
+checked_refused none r e = cc
 checked_refused (some q) r e = cc
 
 -- what `read` answers
-pub read-accepted : (a : Answer) → Accepted ≡ (reading_of a).outcome → a ≡ accepted (reading_of a).pattern
-read-accepted (accepted p) e = refl
-read-accepted (refused r) e = let z : ◌≡◌ {A = ℕ} 0 1 = cc in absurd (omega arith)
+pub read-accepted : (a : Answer) (p : Pattern) → Ok p ≡ reading_of a → a ≡ accepted p
+read-accepted (accepted q) p e = cc
+read-accepted (refused r) p e = cc
 
-pub read_refused : (a : Answer) (r : Refusal) → outcome.Refused r ≡ (reading_of a).outcome → a ≡ refused r
-read_refused (accepted p) r e = let z : ◌≡◌ {A = ℕ} 0 1 = cc in absurd (omega arith)
-read_refused (refused q) r e = let k : r ≡ q = cc in ap refused (sym k)
+pub read_refused : (a : Answer) (r : Refusal) → Err r ≡ reading_of a → a ≡ refused r
+read_refused (accepted p) r e = cc
+read_refused (refused q) r e = cc
+
+-- what the opening answers, as a start
+pub opened_start : (p : Pattern) (o : Option Refusal) → start_with p (answer_of no_ticks o) ≡ start_at (stage_by o) p no_ticks
+opened_start p none = refl
+opened_start p (some r) = refl
 
 twice : {A : Type 0} (x : Bool) (a b : A) → cond (x || x) a b ≡ cond x a b
 twice true a b = refl
@@ -79,7 +81,7 @@ nothing_read = refl
 
 module _ (p : Pattern) (sound : sound_of p ≡ true) (first second : List ℤ) (longFirst : length first ≡ 2048) (longSecond : length second ≡ 2048) where
   -- tables of 2,048 cells
-  tables : open_refusal p (length first) (length second) ≡ tables_refusal p
+  pub tables : open_refusal p (length first) (length second) ≡ tables_refusal p
   unfolding open_refusal
   tables = rw (sound, longFirst, longSecond) (twice (ltb 2_048 (cells_needed p)) (some TableTooShort) none)
 
@@ -87,13 +89,9 @@ module _ (p : Pattern) (sound : sound_of p ≡ true) (first second : List ℤ) (
     abbrev B : Book
     B = book_of_text p.channels t
 
-    abbrev W : Watch
-    W = opened_watch p first second
-
     -- what the opening gives is what the start is to give
-    start-by : (o : Option Refusal) → open_refusal p (length first) (length second) ≡ o → W ≡ start_watch (accepted p) t
-    start-by none e = rw (fits, e, sym tables ∙ e)
-    start-by (some r) e = rw (fits, e, sym tables ∙ e)
+    pub cause_is : open_refusal p (length first) (length second) ≡ refusal_for (accepted p) t
+    cause_is = rw fits tables
 
     first_by : (o : Option Refusal) → open_refusal p (length first) (length second) ≡ o → open_first p first second ≡ start_first (accepted p) t first second
     first_by none e = rw (fits, sym tables ∙ e)
@@ -103,14 +101,14 @@ module _ (p : Pattern) (sound : sound_of p ≡ true) (first second : List ℤ) (
     second-by none e = rw (fits, sym tables ∙ e)
     second-by (some r) e = rw (fits, e, sym tables ∙ e)
 
-    pub opened_start : W ≡ start_watch (accepted p) t
-    opened_start = start-by _ refl
-
     pub opened_first_lem : open_first p first second ≡ start_first (accepted p) t first second
     opened_first_lem = first_by _ refl
 
     pub opened_second_lem : open_second p first second ≡ start_second (accepted p) t first second
     opened_second_lem = second-by _ refl
+
+    abbrev W : Watch
+    W = start_watch (accepted p) t
 
     -- nothing refused: the monitor stands before the first piece
     module _ (e : open_refusal p (length first) (length second) ≡ none) where
@@ -125,11 +123,7 @@ module _ (p : Pattern) (sound : sound_of p ≡ true) (first second : List ℤ) (
       none_given = rw (record_sound_lem p.channels t rs reads fits) e
 
       opens : Fit p (durations_of rs) (values_of rs) 0 W.search (open_first p first second)
-      unfolding chosen_by
-      opens = fit p (durations_of rs) (values_of rs) first second none_given no_ticks W.search refl refl
-
-      zero-ticks : W.search.state.ticks ≡ 0
-      zero-ticks = ap (λ (o : Option Refusal). (unless_refused o no_ticks no_ticks).ticks) e
+      opens = fit p (durations_of rs) (values_of rs) first second none_given W.search refl refl
 
       no_total : total (durations_of []) ≡ 0
       unfolding durations_of total
@@ -137,7 +131,7 @@ module _ (p : Pattern) (sound : sound_of p ≡ true) (first second : List ℤ) (
 
       from_zero : total (take 0 (durations_of rs)) ≡ W.search.state.ticks
       unfolding total
-      from_zero = sym zero-ticks
+      from_zero = refl
 
       book : B ≡ book_of p.channels (durations_of rs) (values_of rs)
       book = book-is p.channels t rs reads
@@ -148,7 +142,7 @@ module _ (p : Pattern) (sound : sound_of p ≡ true) (first second : List ℤ) (
             sound = sound;
             fits = fits;
             position =
-                record { read = []; further = rs; reads = reads; at = sym nothing_read; ticks = let a = zero-ticks in let b = no_total in omega arith; now = inl refl };
+                record { read = []; further = rs; reads = reads; at = sym nothing_read; ticks = sym no_total; now = inl refl };
             searched = subst (λ (w : Book). SearchedTo p w W.search.state.ticks W.search) (sym book) (subst (λ (m : ℕ). SearchedTo p (book_of p.channels (durations_of rs) (values_of rs)) m W.search) from_zero opens.searched);
             first_long = opens.first_long;
             second_long = (second_open p (durations_of rs) (values_of rs) first second none_given).0;
@@ -158,18 +152,15 @@ module _ (p : Pattern) (sound : sound_of p ≡ true) (first second : List ℤ) (
             second_holds = (second_open p (durations_of rs) (values_of rs) first second none_given).1;
           }
 
-    opened_standing : Standing t W (open_first p first second) (open_second p first second)
-    opened_standing = by (open_refusal p (length first) (length second)) refl
-      where
-        by : (o : Option Refusal) → open_refusal p (length first) (length second) ≡ o → StandingAt (stage_by o) t W (open_first p first second) (open_second p first second)
-        by none e = under e
-        by (some r) e = tt
+    opened_standing : (o : Option Refusal) → open_refusal p (length first) (length second) ≡ o → StandingAt (stage_by o) t W (open_first p first second) (open_second p first second)
+    opened_standing none e = under e
+    opened_standing (some r) e = tt
 
-    sound-stands : Standing t (start_watch (accepted p) t) (start_first (accepted p) t first second) (start_second (accepted p) t first second)
+    sound-stands : Standing t W (start_first (accepted p) t first second) (start_second (accepted p) t first second)
     sound-stands =
-        subst (λ (w : Watch). Standing t w (start_first (accepted p) t first second) (start_second (accepted p) t first second)) opened_start
-        (subst (λ (f : List ℤ). Standing t W f (start_second (accepted p) t first second)) opened_first_lem
-        (subst (λ (s : List ℤ). Standing t W (open_first p first second) s) opened_second_lem opened_standing))
+        subst (λ (f : List ℤ). Standing t W f (start_second (accepted p) t first second)) opened_first_lem
+        (subst (λ (s : List ℤ). Standing t W (open_first p first second) s) opened_second_lem
+        (subst (λ (o : Option Refusal). StandingAt (stage_by o) t W (open_first p first second) (open_second p first second)) cause_is (opened_standing _ refl)))
 
 -- ---- the start, by the answer to the pattern's text
 

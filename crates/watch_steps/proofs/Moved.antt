@@ -16,7 +16,7 @@ use Rattle.pattern_text.specs.Bytes.{Bytes}
 use Rattle.pattern_text.specs.Text.{pad}
 use Rattle.record.specs.Record.{total}
 use Rattle.record.proofs.RecordLaws.{parts, lasts-at}
-use Rattle.record.proofs.ListLaws.{get_d_any}
+use Rattle.std.proofs.lemmas.List.{get_or_default}
 use Rattle.record_text.specs.Piece.{RawPiece, values_in}
 use Rattle.record_text.specs.Text.{render_record, read_record, durations_of, values_of}
 use Rattle.record_read.specs.Line.{piece_at}
@@ -60,7 +60,7 @@ module _ (p : Pattern) (t : Bytes) (k : Cursor) (s : Search) (first second : Lis
       let in-it = inside c t rs reads u.fits read r later refl in
       let lasts : 0 < r.duration =
       let a = lasts-at (durations_of rs) (length read) (parts c (durations_of rs) (values_of rs) rules).lasting in
-      let b = get_d_any (durations_of rs) (length read) 0 1 in-it in
+      let b = get_or_default (durations_of rs) (length read) 0 1 in-it in
       let d = duration-is c t rs reads u.fits read r later refl in
       omega arith in
       subst Found (sym here)

@@ -1,13 +1,12 @@
 -- What is still to be printed, and what holds between two steps of the program: a layer below Watch.
-use Rattle.std.specs.Prelude.{ℕ, ◌+◌, ◌-◌, ◌*◌, ◌≤◌, ◌<◌, min, ◌≡◌, ◌⊎◌, List, [], ◌∷◌, ◌++◌, Bool, true, false, cond, ◌&&◌, eqb, ltb, length, take, drop, replicate, ℤ, pos}
+use Rattle.std.specs.Prelude.{ℕ, ◌+◌, ◌-◌, ◌*◌, ◌≤◌, ◌<◌, min, ◌≡◌, ◌⊎◌, List, [], ◌∷◌, ◌++◌, Bool, true, false, cond, ◌&&◌, eqb, ltb, length, take, drop, replicate, ℤ, pos, None, Result, Ok, Err}
 use Rattle.std.proofs.Math.Option.{Option, none, some}
 use Rattle.pattern.specs.declared.Pattern.{Pattern}
 use Rattle.pattern.specs.declared.Refusal.{Refusal}
-use Rattle.pattern.specs.Sound.{sound_of}
+use Rattle.pattern.specs.Sound.{no_pattern, sound_of}
 use Rattle.pattern.specs.Cells.{cells_needed}
 use Rattle.pattern_text.specs.Bytes.{Bytes}
-use Rattle.pattern_text.specs.Text.{Answer, pad}
-use Rattle.pattern_read.specs.Reading.{reading_of}
+use Rattle.pattern_text.specs.Text.{Answer, accepted, refused, pad}
 use Rattle.record.specs.Record.{Book, total}
 use Rattle.record_text.specs.Piece.{RawPiece, values_in}
 use Rattle.record_text.specs.Text.{render_record, read_record, durations_of, record_refusal}
@@ -16,12 +15,13 @@ use Rattle.record_read.specs.Line.{piece_at}
 use Rattle.monitor.specs.Cells.{written}
 use Rattle.monitor.specs.declared.State.{State}
 use Rattle.monitor.specs.State.{no_ticks}
-use Rattle.monitor.specs.Open.{unless_refused, marks, open_refusal, open_state, open_first, open_second}
+use Rattle.monitor.specs.Open.{unless_refused, marks, open_first, open_second}
 use Rattle.monitor.specs.Feed.{Call, feed_state, feed_first, feed_second, feed_scores, feed_lengths}
 use Rattle.best.specs.declared.Search.{Search}
 use Rattle.best.specs.Best.{chosen_of}
 use Rattle.best.specs.Search.{table_to, chosen_in, chosen_past, chunk_of, SearchedTo}
-use Rattle.text_put.specs.Put.{Put}
+use Rattle.text_put.specs.declared.Writer.{Writer}
+use Rattle.text_put.specs.Put.{Puts}
 use Rattle.watch_text.specs.Shown.{refused_text, heading, rows_from, rows_past, best_text}
 use Rattle.watch_steps.specs.declared.Stage.{Stage}
 use Rattle.watch_steps.specs.declared.Stage.TheVariants.{Refused, Heading, Rows, Done}
@@ -149,47 +149,58 @@ pub record Stepped (t : Bytes) (w : Watch) (first second : List ℤ) (out : Byte
   pub second_holds : second' ≡ second_past (next_chunk t w) w.pattern w.search.state first second
   pub past : drop r.length out' ≡ drop r.length out
 
--- What a step through a chunk does, in the words of feeding.
-pub record ChunkStepped (p : Pattern) (k : Cursor) (s : Search) (t u : List ℤ) (o : Bytes) (t' u' : List ℤ) (o' : Bytes) (r : Step) : Type 0 where
-  pub watch : r.watch
-      ≡ watch_at Rows p (record { at = k.at; left = k.left - min k.left 64; values = k.values }) r.watch.search
-  pub state : r.watch.search.state ≡ feed_state p s.state t u (chunk p k)
-  pub choice : chosen_in r.watch.search.choice
-      ≡ chosen_past p (chosen_in s.choice) s.state.ticks (feed_scores p s.state t u (chunk p k)) (feed_lengths p s.state t u (chunk p k)) (min k.left 64)
-  pub first : t' ≡ feed_first p s.state t u (chunk p k)
-  pub second : u' ≡ feed_second p s.state t u (chunk p k)
-  pub put : Put o o' 0 r.length (rows_past s.state.ticks (feed_scores p s.state t u (chunk p k)) (feed_lengths p s.state t u (chunk p k)) (min k.left 64))
-  pub few : length (rows_past s.state.ticks (feed_scores p s.state t u (chunk p k)) (feed_lengths p s.state t u (chunk p k)) (min k.left 64)) ≤ 64 * min k.left 64
+-- The same of the lines that a step puts with a writer: they are the first bytes of those that were due, and fit a buffer of 4,096
+-- bytes.
+pub record StepPut (t : Bytes) (w : Watch) (first second : List ℤ) (out : Writer) (first' second' : List ℤ) (out' : Writer) (w' : Watch) : Type 0 where
+  pub lines : Bytes
+  pub put : Puts out out' lines
+  pub few : length lines ≤ 4096
+  pub due : due_for t w ≡ lines ++ due_for t w'
+  pub standing : Standing t w' first' second'
+  pub fewer : steps_left t w' < steps_left t w
+  pub first_holds : first' ≡ first_past (next_chunk t w) w.pattern w.search.state first second
+  pub second_holds : second' ≡ second_past (next_chunk t w) w.pattern w.search.state first second
 
--- What a step through some fixed lines does.
-pub record LineStepped (stage : Stage) (p : Pattern) (k : Cursor) (s : Search) (xs : Bytes) (o o' : Bytes) (r : Step) : Type 0 where
-  pub watch : r.watch ≡ watch_at stage p k s
-  pub put : Put o o' 0 r.length xs
-  pub few : length xs ≤ 128
+-- What a step through a chunk does, in the words of feeding.
+pub record ChunkPut (w : Watch) (t u : List ℤ) (o : Writer) (t' u' : List ℤ) (o' : Writer) (w' : Watch) : Type 0 where
+  pub watch : w'
+      ≡ watch_at w.stage w.pattern (record { at = w.cursor.at; left = w.cursor.left - min w.cursor.left 64; values = w.cursor.values }) w'.search
+  pub state : w'.search.state ≡ feed_state w.pattern w.search.state t u (chunk w.pattern w.cursor)
+  pub choice : chosen_in w'.search.choice
+      ≡ chosen_past w.pattern (chosen_in w.search.choice) w.search.state.ticks (feed_scores w.pattern w.search.state t u (chunk w.pattern w.cursor)) (feed_lengths w.pattern w.search.state t u (chunk w.pattern w.cursor)) (min w.cursor.left 64)
+  pub first : t' ≡ feed_first w.pattern w.search.state t u (chunk w.pattern w.cursor)
+  pub second : u' ≡ feed_second w.pattern w.search.state t u (chunk w.pattern w.cursor)
+  pub put : Puts o o' (rows_past w.search.state.ticks (feed_scores w.pattern w.search.state t u (chunk w.pattern w.cursor)) (feed_lengths w.pattern w.search.state t u (chunk w.pattern w.cursor)) (min w.cursor.left 64))
+  pub few : length (rows_past w.search.state.ticks (feed_scores w.pattern w.search.state t u (chunk w.pattern w.cursor)) (feed_lengths w.pattern w.search.state t u (chunk w.pattern w.cursor)) (min w.cursor.left 64)) ≤ 64 * min w.cursor.left 64
 
 -- ---- the start
 
 -- Nothing read, nothing chosen.
 abbrev pub start_at : Stage → Pattern → State → Watch
 start_at stage p q =
-    watch_at stage p (record { at = 0; left = 0; values = replicate 8 (pos 0) })
-    (record { state = q; choice = record { end = 0; length = 0; score = pos 0 } })
+    watch_at stage p (record { at = 0; left = 0; values = replicate 8 (pos 0) }) (record { state = q; choice = None })
 
 abbrev pub stage_by : Option Refusal → Stage
 stage_by none = Heading
 stage_by (some r) = Refused r
 
+-- by what the opening answers
+abbrev pub start_with : Pattern → Result State Refusal → Watch
+start_with p (Ok q) = start_at Heading p q
+start_with p (Err r) = start_at (Refused r) p no_ticks
+
+-- the pattern of a text; zeros throughout where it is refused
+abbrev pub pattern_of : Answer → Pattern
+pattern_of (accepted p) = p
+pattern_of (refused r) = no_pattern
+
 -- After both texts and the tables were judged: before the heading, or before the line of the first cause.
 abbrev pub start_watch : Answer → (text : Bytes) → Watch
-start_watch a t = start_at (stage_by (refusal_for a t)) (reading_of a).pattern no_ticks
+start_watch a t = start_at (stage_by (refusal_for a t)) (pattern_of a) no_ticks
 
 -- The tables then: as the opening leaves them, and as they were at a refusal.
 abbrev pub start_first : Answer → (text : Bytes) → (first second : List ℤ) → List ℤ
-start_first a t first second = unless_refused (refusal_for a t) (open_first (reading_of a).pattern first second) first
+start_first a t first second = unless_refused (refusal_for a t) (open_first (pattern_of a) first second) first
 
 abbrev pub start_second : Answer → (text : Bytes) → (first second : List ℤ) → List ℤ
-start_second a t first second = unless_refused (refusal_for a t) (open_second (reading_of a).pattern first second) second
-
--- after the opening
-abbrev pub opened_watch : Pattern → (first second : List ℤ) → Watch
-opened_watch p t u = start_at (stage_by (open_refusal p (length t) (length u))) p (open_state p t u no_ticks)
+start_second a t first second = unless_refused (refusal_for a t) (open_second (pattern_of a) first second) second

@@ -14,11 +14,12 @@ use lib.IntN.{ℤ}
 use Rattle.pattern.specs.declared.Pattern.{Pattern}
 use Rattle.pattern.specs.Sound.{sound_of}
 use Rattle.pattern.proofs.SoundLaws.{parts}
+use Rattle.std.specs.Prelude.{Ok}
 use Rattle.pattern_text.specs.Bytes.{Bytes}
 use Rattle.record.specs.Record.{Book}
 use Rattle.monitor.specs.Demand.{InWindow, BestRun, NoRun}
 use Rattle.monitor.proofs.Demand.{report-right}
-use Rattle.best.specs.Best.{Chosen, score_at, length_at, chosen_of, answered}
+use Rattle.best.specs.Best.{Chosen, score_at, length_at, chosen_of, run_of}
 use Rattle.best.specs.Claims.{RunFrom, AnswerSays}
 use Rattle.best.proofs.Ends.{best_of_record}
 use Rattle.best.proofs.Answer.{from-begin, by_length, ends-inside, said}
@@ -135,7 +136,7 @@ module _ (p : Pattern) (sound : sound_of p ≡ true) (b : Book) where
       (without n m (rows_from p b (suc n) m) (stretch m (suc n) (omega arith)) (score_at p b (suc n)) (length_at p b (suc n)))
       (report-right p sound b (suc n) (omega arith))
 
-  last-right : (o : Option Chosen) → AnswerSays p b (answered none o) → LastRight p b (last_of o)
+  last-right : (o : Option Chosen) → AnswerSays p b (Ok (run_of o)) → LastRight p b (last_of o)
   last-right none k = k
   last-right (some f) k = k
 

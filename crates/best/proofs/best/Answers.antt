@@ -1,45 +1,71 @@
--- Refused for a cause, or the choice told.
-use mathlib.Core.Path.{◌≡◌, sym, ap, ◌∙◌}
+-- `best`: refused as an opening is, once the pattern and the record are sound; else the choice after all ticks is the record's.
+use mathlib.Core.Path.{◌≡◌, refl, sym, ap, ◌∙◌}
 use mathlib.Core.Option.{none, some}
 use lib.ListN.{length}
+use Rattle.std.specs.Prelude.{Ok}
+use Rattle.std.proofs.lemmas.Result.{err_from_is_err_and}
 use Rattle.record.specs.Record.{book_of}
-use Rattle.monitor.proofs.Demand.{open_parts}
-use Rattle.monitor.proofs.Accepted.{done, refused_for_lem}
-use Rattle.pattern.proofs.Said.{said}
-use Rattle.best.specs.declared.Found.TheVariants.{Refused}
-use Rattle.best.specs.Best.{best_refusal, answered, best_of, found_as}
+use Rattle.monitor.specs.State.{no_ticks}
+use Rattle.monitor.specs.Open.{open_refusal}
+use Rattle.monitor.proofs.Accepted.{done, handed, refused_for_lem}
+use Rattle.best.specs.Best.{best_refusal, best_of, found_as, chosen_to, chosen_of}
+use Rattle.best.specs.Search.{chosen_in}
 use Rattle.best.proofs.Answer.{best_numbers_lem}
 use Rattle.best.proofs.Ends.{begins-inside}
-use Rattle.best.proofs.Whole.{causes}
+use Rattle.best.proofs.Pieces.{book-long}
+use Rattle.best.proofs.Whole.{as-opening, fit, flagged, first-left, second-left}
 use Rattle.best.proofs.best.Goals as goal
 
--- no cause, once the refusal is done
-pub search_all-f-requires : goal.search_all-f-requires
-search_all-f-requires c = done _ (sym c.in-Done.is ∙ c.refusal.ensures)
+pub returns-in_err-state : goal.returns-in_err-state
+returns-in_err-state c =
+    let a = c.args in
+    let k = c.in_err-state.ensures in
+    let o : open_refusal a.p (length a.first.now) (length a.second.now) ≡ some c.in_err-state.field-0.0 = refused_for_lem no_ticks _ _ k.value in
+    let e : best_refusal a.p a.durations.now a.values.now (length a.first.now) (length a.second.now) ≡ some c.in_err-state.field-0.0 =
+    as-opening a.p a.durations.now a.values.now _ _ (sym c.sound.ensures ∙ c.if-not-sound.false) (sym c.record_sound.ensures ∙ c.if-not-record_sound.false) ∙ o in
+    let q = err_from_is_err_and c.from_residual.result c.from_residual.ensures.1 in
+    let v : c.from_residual.result ≡ best_of a.p a.durations.now a.values.now a.first.now a.second.now = rw (q.1, q.2, e) in
+    record {
+      value = v;
+      result_value = ap found_as v ∙ best_numbers_lem a.p a.durations.now a.values.now a.first.now a.second.now;
+      first_after = k.first_after ∙ rw (o, e);
+      second_after = k.second_after ∙ rw (o, e);
+    }
+
+pub feed_all-end-requires : goal.feed_all-end-requires
+feed_all-end-requires c =
+    let a = c.args in
+    let k = c.in_ok-state.ensures in
+    let e : best_refusal a.p a.durations.now a.values.now (length a.first.now) (length a.second.now) ≡ none =
+    as-opening a.p a.durations.now a.values.now _ _ (sym c.sound.ensures ∙ c.if-not-sound.false) (sym c.record_sound.ensures ∙ c.if-not-record_sound.false)
+    ∙ done no_ticks _ k.value in (
+      rw k.first_after (fit a.p a.durations.now a.values.now a.first.now a.second.now e _ (handed no_ticks _ k.value) refl),
+      rw k.first_after (flagged a.p a.durations.now a.values.now a.first.now a.second.now e _ c.flag_opened.ensures),
+    )
 
 pub told-requires : goal.told-requires
 told-requires c =
-    let d = c in
-    let a = d.args in
-    let f = c.search_all-f.result in
-    let k = causes a.p a.durations.now a.values.now (length a.first.now) (length a.second.now) (done _ (sym c.in-Done.is ∙ c.refusal.ensures)) in
-    begins-inside a.p (open_parts a.p (length a.first.now) (length a.second.now) k.1).0 (book_of a.p.channels a.durations.now a.values.now) f.end f.length f.score
-    c.search_all-f.ensures.result_value
+    let a = c.args in
+    let ds = a.durations.now in
+    let vs = a.values.now in
+    begins-inside a.p (sym c.sound.ensures ∙ c.if-not-sound.false) (book_of a.p.channels ds vs) _
+    (c.feed_all-end.ensures.searched_to.1 ∙ ap (chosen_to a.p (book_of a.p.channels ds vs)) (sym (book-long a.p a.p.channels ds vs)))
 
-pub returns-in-Done : goal.returns-in-Done
-returns-in-Done c =
-    let s = c.args in
-    let o = c.search_all-f.ensures in
-    let due = best_of s.p s.durations.now s.values.now s.first.now s.second.now in
-    let k = said found_as {r = c.told.result} {a = due} (best_numbers_lem s.p s.durations.now s.values.now s.first.now s.second.now)
-    (rw (done _ (sym c.in-Done.is ∙ c.refusal.ensures)) (c.told.ensures ∙ ap (answered none) o.result_value)) in
-    record { value = k.0; result_value = k.1; first_after = o.first_after; second_after = o.second_after }
-
-pub returns-in-Refused : goal.returns-in-Refused
-returns-in-Refused c =
-    let s = c.args in
-    let e : best_refusal s.p s.durations.now s.values.now (length s.first.now) (length s.second.now) ≡ some c.in-Refused.r =
-    refused_for_lem _ _ (sym c.in-Refused.is ∙ c.refusal.ensures) in
-    let due = best_of s.p s.durations.now s.values.now s.first.now s.second.now in
-    let k = said found_as {r = Refused c.in-Refused.r} {a = due} (best_numbers_lem s.p s.durations.now s.values.now s.first.now s.second.now) (rw e) in
-    record { value = k.0; result_value = k.1; first_after = rw e; second_after = rw e }
+pub returns : goal.returns
+returns c =
+    let a = c.args in
+    let ds = a.durations.now in
+    let vs = a.values.now in
+    let k = c.in_ok-state.ensures in
+    let f = c.feed_all-end.ensures in
+    let e : best_refusal a.p ds vs (length a.first.now) (length a.second.now) ≡ none =
+    as-opening a.p ds vs _ _ (sym c.sound.ensures ∙ c.if-not-sound.false) (sym c.record_sound.ensures ∙ c.if-not-record_sound.false) ∙ done no_ticks _ k.value in
+    let chosen : chosen_in c.feed_all-end.result.choice ≡ chosen_of a.p (book_of a.p.channels ds vs) =
+    f.searched_to.1 ∙ ap (chosen_to a.p (book_of a.p.channels ds vs)) (sym (book-long a.p a.p.channels ds vs)) in
+    let v : Ok c.told.result ≡ best_of a.p ds vs a.first.now a.second.now = rw (e, c.told.ensures, chosen) in
+    record {
+      value = v;
+      result_value = ap found_as v ∙ best_numbers_lem a.p ds vs a.first.now a.second.now;
+      first_after = first-left a.p ds vs a.first.now a.second.now e _ (rw (← k.first_after) f.first_after);
+      second_after = k.second_after ∙ second-left a.p ds vs a.first.now a.second.now e;
+    }

@@ -1,10 +1,10 @@
 -- Chunk by chunk: what was fed of the ticks is what is not left.
-use Prim.Native.Nat.{ℕ, ◌+◌, ◌-◌, ◌<◌}
+use Prim.Native.Nat.{ℕ, ◌+◌, ◌-◌, ◌*◌, ◌<◌}
 use native.Mathlib.Omega.{arith}
-use mathlib.Core.Path.{◌≡◌, refl, ap, subst, ◌∙◌}
-use lib.ListN.{length, take}
+use mathlib.Core.Path.{◌≡◌, ap, subst, ◌∙◌}
+use lib.ListN.{length, take, drop}
 use Rattle.pattern.specs.Distance.{Sample}
-use Rattle.record.specs.Record.{total, book_of}
+use Rattle.record.specs.Record.{sample_at, total, book_of}
 use Rattle.record.proofs.RecordLaws.{parts, sample-within, part-sample}
 use Rattle.monitor.specs.Cells.{written}
 use Rattle.monitor.specs.Feed.{feed_scores, feed_lengths}
@@ -17,40 +17,39 @@ use Rattle.best.proofs.feed_part.Goals as goal
 pub overflow_mul-at : goal.overflow_mul-at
 overflow_mul-at c =
     let a = c.args in
-    let k = (parts a.p.channels a.durations.now a.values.now c.requires.0.fits).agree in
-    let w = sample-within a.piece (length a.durations.now) a.p.channels c.requires.2 in
-    omega arith
+    let k = (parts a.p.channels a.record.durations.now a.record.values.now c.requires.0.fits).agree in
+    let w = sample-within a.piece (length a.record.durations.now) a.p.channels c.requires.2 in
+    rw c.from-channels.ensures (omega arith)
 
-pub overflow_add-past : goal.overflow_add-past
-overflow_add-past c =
+pub overflow_add-sample : goal.overflow_add-sample
+overflow_add-sample c =
     let a = c.args in
-    let k = (parts a.p.channels a.durations.now a.values.now c.requires.0.fits).agree in
-    let w = sample-within a.piece (length a.durations.now) a.p.channels c.requires.2 in
-    omega arith
+    let k = (parts a.p.channels a.record.durations.now a.record.values.now c.requires.0.fits).agree in
+    let w = sample-within a.piece (length a.record.durations.now) a.p.channels c.requires.2 in
+    rw c.from-channels.ensures (omega arith)
 
-pub offset_bounds-values-at : goal.offset_bounds-values-at
-offset_bounds-values-at c =
+pub offset_bounds-record-at : goal.offset_bounds-record-at
+offset_bounds-record-at c =
     let a = c.args in
-    let k = (parts a.p.channels a.durations.now a.values.now c.requires.0.fits).agree in
-    let w = sample-within a.piece (length a.durations.now) a.p.channels c.requires.2 in
-    omega arith
+    let k = (parts a.p.channels a.record.durations.now a.record.values.now c.requires.0.fits).agree in
+    let w = sample-within a.piece (length a.record.durations.now) a.p.channels c.requires.2 in
+    rw c.from-channels.ensures (omega arith)
 
-pub slice_bounds-feed_some-end : goal.slice_bounds-feed_some-end
-slice_bounds-feed_some-end c =
+pub slice_bounds-sample-end : goal.slice_bounds-sample-end
+slice_bounds-sample-end c =
     let a = c.args in
-    let k = (parts a.p.channels a.durations.now a.values.now c.requires.0.fits).agree in
-    let w = sample-within a.piece (length a.durations.now) a.p.channels c.requires.2 in
-    omega arith
+    let k = (parts a.p.channels a.record.durations.now a.record.values.now c.requires.0.fits).agree in
+    let w = sample-within a.piece (length a.record.durations.now) a.p.channels c.requires.2 in
+    rw c.from-channels.ensures (omega arith)
 
 pub loop-left-init : goal.loop-left-init
 loop-left-init c =
     let k = c.requires.0 in
     let a = c.args in
-    let e : total (take a.piece a.durations.now) ≡ total (take a.piece a.durations.now) + (a.count - a.count) = omega arith in (
+    let e : total (take a.piece a.record.durations.now) ≡ total (take a.piece a.record.durations.now) + (a.count - a.count) = omega arith in (
       omega arith,
-      subst (λ (n : ℕ). SearchedTo a.p (book_of a.p.channels a.durations.now a.values.now) n a.s) e k.searched,
-      k.first ∙ ap (λ (n : ℕ). written a.p (table_to a.p (book_of a.p.channels a.durations.now a.values.now) n) a.first.now) e,
-      refl,
+      subst (λ (n : ℕ). SearchedTo a.p (book_of a.p.channels a.record.durations.now a.record.values.now) n a.s) e k.searched,
+      k.first ∙ ap (λ (n : ℕ). written a.p (table_to a.p (book_of a.p.channels a.record.durations.now a.record.values.now) n) a.first.now) e,
       c.requires.1,
     )
 
@@ -59,31 +58,33 @@ feed_some-search-requires c =
     let st = c in
     let a = st.args in
     let l = c.loop-left in
-    let e = c.least-ticks.ensures in (
+    let e = c.min-ticks.ensures in (
       omega arith,
-      room-on a.p st.requires.0.sound a.durations.now a.values.now st.requires.0.fits a.piece a.count l.left c.least-ticks.result st.requires.2 st.requires.3 l.invariant.0 (omega arith) e l.search
+      room-on a.p st.requires.0.sound a.record.durations.now a.record.values.now st.requires.0.fits a.piece a.count l.left c.min-ticks.result st.requires.2 st.requires.3 l.invariant.0 (omega arith) e l.search
           l.first a.first.now st.requires.0.first_long l.invariant.1 l.invariant.2,
-      rw (part-sample a.p.channels a.piece a.values.now) (accepted-on a.p st.requires.0.sound a.durations.now a.values.now st.requires.0.fits a.piece a.count l.left c.least-ticks.result st.requires.2 st.requires.3 l.invariant.0 (omega arith) e l.search
+      rw (c.from-channels.ensures, part-sample a.p.channels a.piece a.record.values.now) (accepted-on a.p st.requires.0.sound a.record.durations.now a.record.values.now st.requires.0.fits a.piece a.count l.left c.min-ticks.result st.requires.2 st.requires.3 l.invariant.0 (omega arith) e l.search
           l.first a.first.now st.requires.0.first_long l.invariant.1 l.invariant.2),
-      l.invariant.4,
+      l.invariant.3,
     )
 
 pub overflow_sub-left : goal.overflow_sub-left
-overflow_sub-left c = let e = c.least-ticks.ensures in omega arith
+overflow_sub-left c = let e = c.min-ticks.ensures in omega arith
 
 pub loop-left-smaller : goal.loop-left-smaller
-loop-left-smaller c = let e = c.least-ticks.ensures in omega arith
+loop-left-smaller c = let e = c.min-ticks.ensures in omega arith
 
 pub loop-left-preserved : goal.loop-left-preserved
 loop-left-preserved c =
     let st = c in
     let a = st.args in
     let l = c.loop-left in
-    let d = c.least-ticks.result in
-    let e = c.least-ticks.ensures in
+    let d = c.min-ticks.result in
+    let e = c.min-ticks.ensures in
     let more : 0 < l.left = c.loop-left-test.true in
     let o = c.feed_some-search.ensures in
-    let sample = part-sample a.p.channels a.piece a.values.now in
+    let n = c.from-channels.result in
+    let at = a.piece * n in
+    let sample : take (at + n - at) (drop at a.record.values.now) ≡ sample_at a.p.channels a.record.values.now a.piece = rw c.from-channels.ensures (part-sample a.p.channels a.piece a.record.values.now) in
     let state-is = rw sample at o.state_value in
     let choice-is =
     subst
@@ -92,27 +93,24 @@ loop-left-preserved c =
     sample o.choice_value in
     let first-is = rw sample at o.first_after in
     let on =
-    onward a.p st.requires.0.sound a.durations.now a.values.now st.requires.0.fits a.piece a.count l.left d st.requires.2 st.requires.3 l.invariant.0 more e l.search
+    onward a.p st.requires.0.sound a.record.durations.now a.record.values.now st.requires.0.fits a.piece a.count l.left d st.requires.2 st.requires.3 l.invariant.0 more e l.search
     l.first a.first.now st.requires.0.first_long l.invariant.1 l.invariant.2 in
-    (omega arith, (state-is ∙ on.0.0, choice-is ∙ on.0.1), first-is ∙ on.1, c.feed_some-search.auto.flags ∙ l.invariant.3, o.flagged)
+    (omega arith, (state-is ∙ on.0.0, choice-is ∙ on.0.1), first-is ∙ on.1, o.flagged)
 
 pub shape_of-first : goal.shape_of-first
 shape_of-first c =
     let st = c in
     ap length c.loop-left.invariant.2 ∙ written-length st.args.p st.requires.0.sound _ st.args.first.now st.requires.0.first_long
 
-pub shape_of-flags : goal.shape_of-flags
-shape_of-flags c = c.loop-left.invariant.3
-
 pub returns : goal.returns
 returns c =
     let st = c in
     let a = st.args in
     let l = c.loop-left in
-    let B = book_of a.p.channels a.durations.now a.values.now in
-    let e : total (take a.piece a.durations.now) + (a.count - l.left) ≡ total (take a.piece a.durations.now) + a.count = omega arith in
+    let B = book_of a.p.channels a.record.durations.now a.record.values.now in
+    let e : total (take a.piece a.record.durations.now) + (a.count - l.left) ≡ total (take a.piece a.record.durations.now) + a.count = omega arith in
     record {
       searched_to = subst (λ (n : ℕ). SearchedTo a.p B n l.search) e l.invariant.1;
       first_after = l.invariant.2 ∙ ap (λ (n : ℕ). written a.p (table_to a.p B n) a.first.now) e;
-      flagged = l.invariant.4;
+      flagged = l.invariant.3;
     }

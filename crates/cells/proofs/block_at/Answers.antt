@@ -10,30 +10,6 @@ pub returns : goal.returns
 unfolding block_at
 returns c = refl
 
-pub overflow_mul-result : goal.overflow_mul-result
-overflow_mul-result c = let s = c in
-    let h = in_table s.args.l s.args.n s.args.stage s.args.p s.requires in
-    let laid = s.requires.laid in
-    omega arith
-
-pub overflow_mul-result-2 : goal.overflow_mul-result-2
-overflow_mul-result-2 c = let s = c in
-    let h = in_table s.args.l s.args.n s.args.stage s.args.p s.requires in
-    let laid = s.requires.laid in
-    omega arith
-
-pub overflow_add-result : goal.overflow_add-result
-overflow_add-result c = let s = c in
-    let h = in_table s.args.l s.args.n s.args.stage s.args.p s.requires in
-    let laid = s.requires.laid in
-    omega arith
-
-pub overflow_mul-result-3 : goal.overflow_mul-result-3
-overflow_mul-result-3 c = let s = c in
-    let h = in_table s.args.l s.args.n s.args.stage s.args.p s.requires in
-    let laid = s.requires.laid in
-    omega arith
-
 pub overflow_add-result-2 : goal.overflow_add-result-2
 overflow_add-result-2 c = let s = c in
     let h = in_table s.args.l s.args.n s.args.stage s.args.p s.requires in

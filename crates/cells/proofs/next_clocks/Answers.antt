@@ -19,22 +19,8 @@ overflow_add-c c = let s = c in
     let w = h.within in
     omega (arith, s.requires.0.low 2)
 
-pub overflow_add-result : goal.overflow_add-result
-overflow_add-result c = let s = c in
-    let a = s.args in
-    let h = turned a.l a.k a.clocks s.requires.0 s.requires.1 s.requires.2 in
-    let w = h.within in
-    omega (arith, s.requires.0.low 2)
-
 pub overflow_add-b : goal.overflow_add-b
 overflow_add-b c = let s = c in
-    let a = s.args in
-    let h = turned a.l a.k a.clocks s.requires.0 s.requires.1 s.requires.2 in
-    let w = h.within in
-    omega (arith, s.requires.0.low 1)
-
-pub overflow_add-result-then-b-l : goal.overflow_add-result-then-b-l
-overflow_add-result-then-b-l c = let s = c in
     let a = s.args in
     let h = turned a.l a.k a.clocks s.requires.0 s.requires.1 s.requires.2 in
     let w = h.within in

@@ -5,5 +5,5 @@ use Rattle.cells.proofs.tick_clocks.Goals as goal
 
 pub returns : goal.returns
 returns c = let s = c in
-    rw (c.tick_clock-a.ensures, c.tick_clock-b.ensures, c.tick_clock-c.ensures, c.tick_clock-d.ensures)
+    rw (c.tick_clock.ensures, c.tick_clock-2.ensures, c.tick_clock-3.ensures, c.tick_clock-4.ensures)
     (sym (ticked-four s.args.l.radices s.args.clocks s.requires.four s.well_formed.1.0.1.0.1))

@@ -1,40 +1,32 @@
-use mathlib.Core.Path.{◌≡◌, sym, ap, ◌∙◌}
-use mathlib.Core.List.{List}
-use mathlib.Core.Option.{Option, none, some}
+-- `open`: an opening that is not refused has a sound pattern and long tables.
+use mathlib.Core.Path.{◌≡◌, ap, ◌∙◌}
+use mathlib.Core.Option.{none}
 use lib.ListN.{length}
-use lib.IntN.{ℤ}
-use Rattle.pattern.specs.declared.Pattern.{Pattern}
-use Rattle.pattern.specs.declared.Refusal.{Refusal}
-use Rattle.monitor.specs.Open.{answer_of, answer_number, open_refusal, open_number}
-use Rattle.monitor.proofs.Answers.{open_numbers}
-use Rattle.monitor.proofs.Accepted.{done, refused_for_lem, opened}
+use Rattle.std.proofs.lemmas.Result.{err_from_is_err_and}
+use Rattle.monitor.specs.Open.{answer_number, open_refusal}
+use Rattle.monitor.proofs.Answers.{opened_numbers}
+use Rattle.monitor.proofs.Accepted.{done, opened}
 use Rattle.feed.proofs.open.Goals as goal
+
+pub returns-in_err-open_refusal-clause-answer_value : goal.returns-in_err-open_refusal-clause-answer_value
+returns-in_err-open_refusal-clause-answer_value c =
+    let a = c.args in
+    let p = err_from_is_err_and c.from_residual.result c.from_residual.ensures.1 in
+    rw (p.1, p.2) (ap (answer_number {A = Unit {0}}) c.in_err-open_refusal.ensures ∙ opened_numbers (tt {0}) a.p a.first.now a.second.now)
 
 pub open_both-requires : goal.open_both-requires
 open_both-requires c =
-    let b = c in
-    let a = b.args in
-    let o = opened a.p (length a.first.now) (length a.second.now) (done (open_refusal a.p (length a.first.now) (length a.second.now)) (sym c.in-Done.is ∙ b.open_refusal.ensures)) in
+    let a = c.args in
+    let o = opened a.p (length a.first.now) (length a.second.now) (done (tt {0}) _ c.in_ok-open_refusal.ensures) in
     record { p_value = o.sound; p_in_bounds = o.tables.first; p_in_bounds_2 = o.tables.second }
 
--- the number of what was found
-number : (p : Pattern) (t u : List ℤ) (o : Option Refusal) → open_refusal p (length t) (length u) ≡ o → answer_number (answer_of o) ≡ open_number p t u
-number p t u o e = ap (λ (q : Option Refusal). answer_number (answer_of q)) (sym e) ∙ open_numbers p t u
-
-pub returns-in-Done : goal.returns-in-Done
-returns-in-Done c =
+pub returns-clause-value : goal.returns-clause-value
+returns-clause-value c =
     let a = c.args in
-    let e : open_refusal a.p (length a.first.now) (length a.second.now) ≡ none = done _ (sym c.in-Done.is ∙ c.open_refusal.ensures) in
-    let o = c.open_both.ensures in
-    record {
-      value = rw (e, c.no_ticks-none.ensures);
-      answer_value = number a.p a.first.now a.second.now _ e;
-      first_after = rw e o.first_after;
-      second_after = rw e o.second_after;
-    }
+    let e : open_refusal a.p (length a.first.now) (length a.second.now) ≡ none = done (tt {0}) _ c.in_ok-open_refusal.ensures in
+    rw (e, c.no_ticks.ensures)
 
-pub returns-in-Refused : goal.returns-in-Refused
-returns-in-Refused c =
+pub returns-clause-answer_value : goal.returns-clause-answer_value
+returns-clause-answer_value c =
     let a = c.args in
-    let e : open_refusal a.p (length a.first.now) (length a.second.now) ≡ some c.in-Refused.r = refused_for_lem _ _ (sym c.in-Refused.is ∙ c.open_refusal.ensures) in
-    record { value = rw e; answer_value = number a.p a.first.now a.second.now _ e; first_after = rw e; second_after = rw e }
+    ap (answer_number {A = Unit {0}}) c.in_ok-open_refusal.ensures ∙ opened_numbers (tt {0}) a.p a.first.now a.second.now

@@ -1,7 +1,7 @@
 -- The loop has looked at the first n rows.
 use mathlib.Core.Path.{◌≡◌}
-use Prim.Native.Nat.{ℕ, ◌+◌, ◌*◌, ◌≤◌, ◌<◌, ◌-◌}
-use lib.ListN.{length, take, get_or}
+use Prim.Native.Nat.{ℕ, ◌*◌, ◌<◌}
+use lib.ListN.{take, get_or}
 use Rattle.pattern.specs.Slots.{all}
 use Rattle.flags.specs.Flags.{RowFlagged}
 use Rattle.monitor.specs.Feed.{cell_fine}
@@ -9,8 +9,4 @@ use Rattle.feed_checks.proofs.cells_broken.Given as goal
 
 abbrev pub invariant-loop-n : goal.invariant-loop-n
 invariant-loop-n l =
-    (l.n ≤ l.l.high + 1) × (length l.flags ≡ length l.initial.flags) × (l.fine ≡ all cell_fine (take (l.n * l.l.row) l.table))
-    × ((m : ℕ) → m < l.n → RowFlagged l.l l.table (get_or l.flags m 0) m)
-
-abbrev pub decreases-loop-n : goal.decreases-loop-n
-decreases-loop-n l = l.l.high + 1 - l.n
+    (l.fine ≡ all cell_fine (take (l.n * l.l.row) l.table)) × ((m : ℕ) → m < l.n → RowFlagged l.l l.table (get_or l.flags m 0) m)

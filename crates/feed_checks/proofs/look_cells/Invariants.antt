@@ -1,6 +1,5 @@
 -- The loop has looked at the first i cells of the row, each a block of its own.
 use mathlib.Core.Path.{◌≡◌}
-use Prim.Native.Nat.{◌≤◌, ◌-◌}
 use lib.ListN.{take, drop}
 use Rattle.pattern.specs.Slots.{all}
 use Rattle.monitor.specs.Feed.{cell_fine}
@@ -8,8 +7,4 @@ use Rattle.feed_checks.proofs.Flagging.{FlaggedTo}
 use Rattle.feed_checks.proofs.look_cells.Given as goal
 
 abbrev pub invariant-loop-i : goal.invariant-loop-i
-invariant-loop-i l =
-    (l.i ≤ l.count) × (l.fine ≡ all cell_fine (take l.i (drop l.from l.table))) × FlaggedTo l.table l.from 1 l.i l.flags
-
-abbrev pub decreases-loop-i : goal.decreases-loop-i
-decreases-loop-i l = l.count - l.i
+invariant-loop-i l = (l.fine ≡ all cell_fine (take l.i (drop l.from l.table))) × FlaggedTo l.table l.from 1 l.i l.flags

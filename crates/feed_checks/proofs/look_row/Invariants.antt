@@ -1,6 +1,6 @@
 -- Blocks of one cell are looked at by `look_cells`. The loop has looked at the first i blocks of the row.
 use mathlib.Core.Path.{◌≡◌}
-use Prim.Native.Nat.{◌*◌, ◌≤◌, ◌-◌}
+use Prim.Native.Nat.{◌*◌}
 use lib.ListN.{take, drop}
 use Rattle.pattern.specs.Slots.{all}
 use Rattle.monitor.specs.Feed.{cell_fine}
@@ -9,7 +9,4 @@ use Rattle.feed_checks.proofs.look_row.Given as goal
 
 abbrev pub invariant-loop-i : goal.invariant-loop-i
 invariant-loop-i l =
-    (l.i ≤ l.count) × (l.fine ≡ all cell_fine (take (l.i * l.size) (drop l.from l.table))) × FlaggedTo l.table l.from l.size l.i l.flags
-
-abbrev pub decreases-loop-i : goal.decreases-loop-i
-decreases-loop-i l = l.count - l.i
+    (l.fine ≡ all cell_fine (take (l.i * l.l.block) (drop l.from l.table))) × FlaggedTo l.table l.from l.l.block l.i l.flags

@@ -1,9 +1,6 @@
--- The reading stands within the buffer; each turn counts one down.
+-- The reading stands within the buffer.
 use Rattle.std.proofs.Common.{◌≤◌, length}
 use Rattle.files.proofs.read_all.Given as goal
 
-abbrev pub invariant-loop-turns : goal.invariant-loop-turns
-invariant-loop-turns l = l.reading.at ≤ length l.buffer
-
-abbrev pub decreases-loop-turns : goal.decreases-loop-turns
-decreases-loop-turns l = l.turns
+abbrev pub invariant-loop : goal.invariant-loop
+invariant-loop l = l.at ≤ length l.buffer

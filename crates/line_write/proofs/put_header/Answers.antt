@@ -1,18 +1,29 @@
 -- The header's line, part by part.
+use Rattle.std.proofs.Common.{◌≡◌, ◌++◌, append_assoc, ap, ◌∙◌}
+use Rattle.pattern.specs.declared.Pattern.{Pattern}
+use Rattle.pattern_text.specs.Bytes.{bytes}
+use Rattle.pattern_text.specs.Numeral.{decimal}
 use Rattle.pattern_text.specs.Form.{◌▸◌, ◌⨾◌, ◌◂◌, mapped, one_of, number}
-use Rattle.pattern_text.specs.Line.{weighing, header_line, render_line}
+use Rattle.pattern_text.specs.Line.{weighing, weighing_word, header_line, render_line}
 use Rattle.pattern_text.specs.Text.{doc_of, ended}
-use Rattle.text_put.proofs.PutLaws.{put-long, put_then}
+use Rattle.text_put.proofs.PutLaws.{puts_then}
+use Rattle.line_write.specs.Lines.{header_text}
 use Rattle.line_write.proofs.put_header.Goals as goal
 
-pub returns : goal.returns
+parts : (p : Pattern) → header_text p
+    ≡ bytes "(pattern " ++ (bytes (weighing_word p.weighing) ++ (decimal p.channels ++ (bytes " " ++ (decimal p.clocks ++ (bytes " " ++ (decimal p.low ++ (bytes " " ++ (decimal p.high ++ bytes ")\n"))))))))
 unfolding ended render_line header_line mapped ◌▸◌ ◌⨾◌ ◌◂◌ weighing one_of number doc_of
-returns c =
-    put_then
-    (put_then (put_then c.put_word-n.ensures c.put_weighing-n.ensures)
-    (put_then c.put_number_and-n.ensures (put_then c.put_number_and-n-2.ensures
-    (put_then c.put_number_and-n-3.ensures c.put_number_and-n-4.ensures))))
-    c.put_byte.ensures
+parts p =
+    let word = bytes (weighing_word p.weighing) in
+    ap (λ b. bytes "(pattern " ++ b) (append_assoc word _ _ ∙ ap (◌++◌ word) (simp append_assoc))
 
-pub shape_of-text : goal.shape_of-text
-shape_of-text c = put-long (returns c)
+pub returns : goal.returns
+returns c =
+    let channels = rw c.from.ensures at c.number.ensures in
+    let clocks = rw c.from-2.ensures at c.number-2.ensures in
+    let low = rw c.from-3.ensures at c.number-3.ensures in
+    let high = rw c.from-4.ensures at c.number-4.ensures in
+    rw parts
+    (puts_then c.word.ensures (puts_then c.put_word.ensures (puts_then channels (puts_then c.byte.ensures
+    (puts_then clocks (puts_then c.byte-2.ensures (puts_then low (puts_then c.byte-3.ensures
+    (puts_then high c.word-2.ensures)))))))))

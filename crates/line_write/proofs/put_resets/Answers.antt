@@ -1,24 +1,31 @@
--- The loop has put the flags before the clock k.
-use mathlib.Core.Path.{◌≡◌}
-use mathlib.Core.Bool.{false}
-use native.Mathlib.Omega.{arith}
-use lib.ListN.{length}
-use Rattle.text_put.proofs.PutLaws.{put-long}
-use Rattle.line_write.proofs.ResetLaws.{passed_none, passed-next, passed-all}
+-- One more flag is put.
+use Rattle.std.proofs.Common.{◌≡◌, arith, refl}
+use Rattle.text_put.proofs.PutLaws.{puts_none, puts_then}
+use Rattle.line_write.specs.Resets.{before_clock}
+use Rattle.line_write.proofs.ResetLaws.{passed_none, passed-reset, passed-kept, passed-all}
 use Rattle.line_write.proofs.put_resets.Goals as goal
+use Rattle.line_write.proofs.put_resets.Goals.{then-reset, then-begun, else-begun, else-reset}
 
-pub loop-k-init : goal.loop-k-init
-loop-k-init c = (omega arith, passed_none _ _ _)
+pub loop-clock-init : goal.loop-clock-init
+loop-clock-init c = passed_none _ _
 
-pub loop-k-preserved : goal.loop-k-preserved
-loop-k-preserved c =
-    let e : length c.args.e.resets ≡ 4 = omega arith in
-    (omega arith, passed-next c.loop-k.k c.args.e.resets false (omega arith) c.loop-k.invariant.1 c.put_flag-n.ensures)
+pub loop-clock-preserved : goal.loop-clock-preserved
+loop-clock-preserved c =
+    elim c.if-reset.branch [
+      | then-reset w ↦
+          let before : w.if-begun.word.now ≡ before_clock c.loop-clock.begun = elim w.if-begun.branch [
+            | then-begun v ↦ rw (v.word-is, v.if-begun.true) refl
+            | else-begun v ↦ rw (v.word-is, v.if-begun.false) refl
+          ] in
+          rw (w.out-is, w.begun-is)
+          (passed-reset c.loop-clock.clock _ (omega arith) w.if-reset.true c.loop-clock.invariant (puts_then (rw before at w.word.ensures) w.number.ensures))
+      | else-reset w ↦ rw (w.out-is, w.begun-is) (passed-kept c.loop-clock.clock _ (omega arith) w.if-reset.false c.loop-clock.invariant)
+    ]
 
-pub returns : goal.returns
-returns c =
-    let e : length c.args.e.resets ≡ 4 = omega arith in
-    passed-all c.loop-k.k c.args.e.resets (omega arith) c.loop-k.invariant.1 c.put_close.ensures
+pub returns-then-begun-2 : goal.returns-then-begun-2
+returns-then-begun-2 c =
+    passed-all c.loop-clock.clock _ (omega arith) c.loop-clock.invariant (rw c.if-begun-2.true c.byte.ensures)
 
-pub shape_of-text : goal.shape_of-text
-shape_of-text c = put-long (returns c)
+pub returns-else-begun-2 : goal.returns-else-begun-2
+returns-else-begun-2 c =
+    passed-all c.loop-clock.clock _ (omega arith) c.loop-clock.invariant (rw c.if-begun-2.false (puts_none _))

@@ -1,10 +1,6 @@
--- The loop has put the flags before the clock k.
-use Prim.Native.Nat.{◌≤◌, ◌-◌}
+-- The flags before the clock are put.
 use Rattle.line_write.proofs.ResetLaws.{Passed}
 use Rattle.line_write.proofs.put_resets.Given as goal
 
-abbrev pub invariant-loop-k : goal.invariant-loop-k
-invariant-loop-k l = (l.k ≤ 4) × Passed l.initial.text l.text l.at l.n l.begun l.k l.e.resets
-
-abbrev pub decreases-loop-k : goal.decreases-loop-k
-decreases-loop-k l = 4 - l.k
+abbrev pub invariant-loop-clock : goal.invariant-loop-clock
+invariant-loop-clock l = Passed l.initial.out l.out l.begun l.clock l.resets

@@ -1,8 +1,6 @@
 use mathlib.Core.Path.{sym, ◌∙◌}
-use Rattle.pattern.specs.Cells.{counted_as, cells_of}
-use Rattle.pattern.proofs.Said.{said}
+use Rattle.pattern.specs.Cells.{cells_of}
 use Rattle.pattern.proofs.Claims.{cells-numbers}
-use borrow.Author.Rules.{rules}
 use Rattle.pattern.proofs.cells.Goals as goal
 
 pub cells_needed-requires : goal.cells_needed-requires

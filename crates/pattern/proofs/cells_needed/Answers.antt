@@ -1,14 +1,13 @@
 use native.Mathlib.Omega.{arith}
 use Rattle.pattern.proofs.CellLaws.{front_low, all-low, needed_is}
-use borrow.Author.Rules.{rules}
 use Rattle.pattern.proofs.cells_needed.Goals as goal
 
 -- What is promised stands first, so that a wrong body is refused there (decision 64).
 pub returns : goal.returns
-returns c = rw c.radices.ensures (needed_is c.args.p c.requires)
+returns c = rw (c.from.ensures, c.from-2.ensures, c.radices.ensures) (needed_is c.args.p c.requires)
 
 pub overflow_mul-result-2 : goal.overflow_mul-result-2
-overflow_mul-result-2 c = let l = front_low c.args.p c.requires in omega arith
+overflow_mul-result-2 c = let l = front_low c.args.p c.requires in rw (c.from.ensures, c.from-2.ensures) (omega arith)
 
 pub overflow_mul-result-3 : goal.overflow_mul-result-3
-overflow_mul-result-3 c = rw c.radices.ensures (record { fits = all-low c.args.p c.requires })
+overflow_mul-result-3 c = rw (c.from.ensures, c.from-2.ensures, c.radices.ensures) (record { fits = all-low c.args.p c.requires })

@@ -1,5 +1,4 @@
 use Rattle.pattern.specs.Sound.{sound_of}
-use borrow.Author.Rules.{rules}
 use Rattle.pattern.proofs.sound.Goals as goal
 
 pub returns : goal.returns

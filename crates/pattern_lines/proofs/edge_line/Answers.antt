@@ -1,22 +1,40 @@
--- `edge_line` meets its contract.
-use mathlib.Core.Path.{sym, ◌∙◌}
-use borrow.Author.Tests.{not-true, not-false}
-use Rattle.pattern_lines.specs.declared.Content.TheVariants.{Edge}
-use Rattle.pattern_lines.proofs.TurnLaws.{edge_absent, edge-early, edge-ruled}
+-- An edge's line.
+use Rattle.std.proofs.Common.{◌≡◌, refl}
+use Rattle.std.proofs.lemmas.Result.{err_from_is_err_and}
+use borrow.Author.Tests.{lt-ltb, le-ltb}
+use Rattle.pattern.specs.declared.Refusal.TheVariants.{BrokenForm}
+use Rattle.pattern_lines.specs.Turn.{edge_judged, edge_turn}
 use Rattle.pattern_lines.proofs.edge_line.Goals as goal
 
-pub returns-then-not-line : goal.returns-then-not-line
-returns-then-not-line c =
-    edge_absent _ _ c.args.counts _ c.edge_at-line.ensures _ (not-true c.edge_at-line.result.found c.if-not-line.true) c.bare_line.ensures
+pub returns-in_err-line : goal.returns-in_err-line
+unfolding edge_turn
+returns-in_err-line c =
+    let p = err_from_is_err_and c.from_residual.result c.from_residual.ensures.1 in
+    let none = c.in_err-line.ensures.ok_part in
+    let cause : c.in_err-line.field-0.0 ≡ BrokenForm = cc (rw none at c.in_err-line.ensures.value) in
+    let e = rw none at c.read_edge.ensures in
+    record { left = rw (p.1, p.2, cause, ← e) refl; pattern = rw (← e) refl }
 
-pub returns-then-counts-lt1 : goal.returns-then-counts-lt1
-returns-then-counts-lt1 c =
-    edge-early _ _ c.args.counts _ c.edge_at-line.ensures _ (not-false c.edge_at-line.result.found c.if-not-line.false) c.if-counts-lt1.true c.bare_line-then-counts-lt1.ensures
+pub returns-then-p-lt1 : goal.returns-then-p-lt1
+unfolding edge_turn edge_judged
+returns-then-p-lt1 c =
+    let e = rw c.in_ok-line.ensures.ok_part at c.read_edge.ensures in
+    let few = lt-ltb c.args.p.now.placecount 1 c.if-p-lt1.true in
+    record { left = rw (← e, few) refl; pattern = rw (← e, few) refl }
 
-pub returns-in-Faulty : goal.returns-in-Faulty
-returns-in-Faulty c =
-    edge-ruled _ _ c.args.counts _ c.edge_at-line.ensures _ _ (not-false c.edge_at-line.result.found c.if-not-line.false) c.if-counts-lt1.false (sym c.in-Faulty.is ∙ c.edge_verdict.ensures) c.bare_line-in-Faulty.ensures
+pub returns-in_err-add_edge : goal.returns-in_err-add_edge
+unfolding edge_turn edge_judged
+returns-in_err-add_edge c =
+    let p = err_from_is_err_and c.from_residual-in_err-add_edge.result c.from_residual-in_err-add_edge.ensures.1 in
+    let e = rw c.in_ok-line.ensures.ok_part at c.read_edge.ensures in
+    let some = le-ltb c.args.p.now.placecount 1 c.if-p-lt1.false in
+    let v = c.in_err-add_edge.ensures.verdict in
+    record { left = rw (p.1, p.2, ← e, some, ← v) refl; pattern = rw (← e, some, ← v) c.in_err-add_edge.ensures.put }
 
-pub returns-in-Fine : goal.returns-in-Fine
-returns-in-Fine c =
-    edge-ruled _ _ c.args.counts _ c.edge_at-line.ensures _ _ (not-false c.edge_at-line.result.found c.if-not-line.false) c.if-counts-lt1.false (sym c.in-Fine.is ∙ c.edge_verdict.ensures) (λ i. record { at = c.edge_at-line.result.next; content = Edge; place = c.no_place-place.ensures i; edge = c.edge_of-edge.ensures i })
+pub returns : goal.returns
+unfolding edge_turn edge_judged
+returns c =
+    let e = rw c.in_ok-line.ensures.ok_part at c.read_edge.ensures in
+    let some = le-ltb c.args.p.now.placecount 1 c.if-p-lt1.false in
+    let v = c.in_ok-add_edge.ensures.verdict in
+    record { left = rw (← e, some, ← v) refl; pattern = rw (← e, some, ← v) c.in_ok-add_edge.ensures.put }

@@ -1,7 +1,8 @@
 -- `price` is the operation: the refusals in their order, else the score.
 use mathlib.Core.Path.{◌≡◌, sym, ap, ◌∙◌}
 use Rattle.pattern.specs.declared.Refusal.TheVariants.{UnsoundPattern, BrokenRecord, BrokenSteps}
-use Rattle.price.specs.declared.Priced.TheVariants.{Refused}
+use Rattle.std.specs.Prelude.{Result, Err, ℤ}
+use Rattle.pattern.specs.declared.Refusal.{Refusal}
 use Rattle.price.specs.Price.{priced_of, priced_as}
 use Rattle.price.proofs.Numbers.{priced_numbers_lem}
 use Rattle.record.proofs.RecordLaws.{parts}
@@ -11,7 +12,7 @@ pub returns-then-not-sound : goal.returns-then-not-sound
 unfolding priced_of
 returns-then-not-sound c =
     let a = c.args in
-    let e : Refused UnsoundPattern ≡ priced_of a.p a.durations.now a.values.now a.begin a.edges.now a.stays.now =
+    let e : ◌≡◌ {A = Result ℤ Refusal} (Err UnsoundPattern) (priced_of a.p a.durations.now a.values.now a.begin a.edges.now a.stays.now) =
     rw (sym c.sound.ensures ∙ c.if-not-sound.true) in
     record { value = e; result_value = ap priced_as e ∙ priced_numbers_lem a.p a.durations.now a.values.now a.begin a.edges.now a.stays.now }
 
@@ -19,7 +20,7 @@ pub returns-then-not-record_sound : goal.returns-then-not-record_sound
 unfolding priced_of
 returns-then-not-record_sound c =
     let a = c.args in
-    let e : Refused BrokenRecord ≡ priced_of a.p a.durations.now a.values.now a.begin a.edges.now a.stays.now =
+    let e : ◌≡◌ {A = Result ℤ Refusal} (Err BrokenRecord) (priced_of a.p a.durations.now a.values.now a.begin a.edges.now a.stays.now) =
     rw ((sym c.sound.ensures ∙ c.if-not-sound.false), sym c.record_sound.ensures ∙ c.if-not-record_sound.true) in
     record { value = e; result_value = ap priced_as e ∙ priced_numbers_lem a.p a.durations.now a.values.now a.begin a.edges.now a.stays.now }
 
@@ -30,7 +31,7 @@ pub returns-then-not-steps_fit : goal.returns-then-not-steps_fit
 unfolding priced_of
 returns-then-not-steps_fit c =
     let a = c.args in
-    let e : Refused BrokenSteps ≡ priced_of a.p a.durations.now a.values.now a.begin a.edges.now a.stays.now =
+    let e : ◌≡◌ {A = Result ℤ Refusal} (Err BrokenSteps) (priced_of a.p a.durations.now a.values.now a.begin a.edges.now a.stays.now) =
     rw ((sym c.sound.ensures ∙ c.if-not-sound.false), (sym c.record_sound.ensures ∙ c.if-not-record_sound.false), sym c.steps_fit.ensures ∙ c.if-not-steps_fit.true) in
     record { value = e; result_value = ap priced_as e ∙ priced_numbers_lem a.p a.durations.now a.values.now a.begin a.edges.now a.stays.now }
 

@@ -1,15 +1,16 @@
 -- `score` hands the part of the record from the begin's piece on.
 use native.Mathlib.Omega.{arith}
-use mathlib.Core.Path.{◌≡◌, ap, ◌∙◌}
+use mathlib.Core.Path.{◌≡◌, sym, ap, ◌∙◌}
 use Prim.Native.Nat.{ℕ, ◌*◌, ◌≤◌, ◌<◌}
 use mathlib.Core.List.{List}
 use mathlib.Core.Bool.{true}
 use lib.IntN.{ℤ}
 use Rattle.record.specs.Record.{record_sound}
 use lib.ListN.{length}
+use Rattle.price_runs.specs.Stand.{outcome}
 use Rattle.price.specs.Price.{scored}
 use Rattle.record.proofs.RecordLaws.{parts, sample-within}
-use Rattle.price.proofs.WholeLaws.{steps, rest_of, at_begin, held-at-begin, outcome-at-begin}
+use Rattle.price.proofs.WholeLaws.{steps, rest_of, started, held-at-begin, outcome-at-begin}
 use Rattle.price.proofs.score.Goals as goal
 
 -- the begin's piece has its values in the slice
@@ -20,7 +21,7 @@ pub find-found-requires : goal.find-found-requires
 find-found-requires c = (steps c.args.durations.now c.args.begin c.args.edges.now c.args.stays.now c.requires.steps).within
 
 pub overflow_mul-at : goal.overflow_mul-at
-overflow_mul-at c = omega (arith, values-within c.args.p.channels c.args.durations.now c.args.values.now c.find-found.result.piece c.requires.kept c.find-found.ensures.inside)
+overflow_mul-at c = rw c.from.ensures (omega (arith, values-within c.args.p.channels c.args.durations.now c.args.values.now c.find-found.result.piece c.requires.kept c.find-found.ensures.inside))
 
 pub ticks-requires : goal.ticks-requires
 ticks-requires c = (parts c.args.p.channels c.args.durations.now c.args.values.now c.requires.kept).few
@@ -35,32 +36,32 @@ pub bounds-edges-0 : goal.bounds-edges-0
 bounds-edges-0 c = let e = (steps c.args.durations.now c.args.begin c.args.edges.now c.args.stays.now c.requires.steps).some_step in omega arith
 
 pub offset_bounds-values-at : goal.offset_bounds-values-at
-offset_bounds-values-at c = omega (arith, values-within c.args.p.channels c.args.durations.now c.args.values.now c.find-found.result.piece c.requires.kept c.find-found.ensures.inside)
+offset_bounds-values-at c = rw c.from.ensures (omega (arith, values-within c.args.p.channels c.args.durations.now c.args.values.now c.find-found.result.piece c.requires.kept c.find-found.ensures.inside))
 
-pub slice_bounds-score_from-count-2 : goal.slice_bounds-score_from-count-2
-slice_bounds-score_from-count-2 c = values-within c.args.p.channels c.args.durations.now c.args.values.now c.find-found.result.piece c.requires.kept c.find-found.ensures.inside
+pub slice_bounds-lent-count-2 : goal.slice_bounds-lent-count-2
+slice_bounds-lent-count-2 c = rw c.from.ensures (values-within c.args.p.channels c.args.durations.now c.args.values.now c.find-found.result.piece c.requires.kept c.find-found.ensures.inside)
 
-pub slice_bounds-score_from-start-2 : goal.slice_bounds-score_from-start-2
-slice_bounds-score_from-start-2 c = omega (arith, values-within c.args.p.channels c.args.durations.now c.args.values.now c.find-found.result.piece c.requires.kept c.find-found.ensures.inside)
+pub slice_bounds-lent-start-2 : goal.slice_bounds-lent-start-2
+slice_bounds-lent-start-2 c = rw c.from.ensures (omega (arith, values-within c.args.p.channels c.args.durations.now c.args.values.now c.find-found.result.piece c.requires.kept c.find-found.ensures.inside))
+
+pub returns-in_default : goal.returns-in_default
+unfolding outcome
+returns-in_default c =
+    let a = c.args in
+    let f = c.find-found in
+    rw (← outcome-at-begin a.p a.durations.now a.values.now a.begin a.edges.now a.stays.now c.requires f.result f.ensures, ← c.ticks.ensures, ← c.start.ensures, c.in_default.is)
 
 pub score_from-requires : goal.score_from-requires
 score_from-requires c =
-    let s = c in
+    let a = c.args in
     let f = c.find-found in
-    let placed : c.start-s.result ≡ at_begin s.args.p s.args.durations.now s.args.values.now s.args.begin s.args.edges.now s.args.stays.now s.requires f.result f.ensures = c.start-s.ensures ∙ rw c.ticks.ensures in
-    let at = f.result.piece * s.args.p.channels in
-    let has = steps c.args.durations.now c.args.begin c.args.edges.now c.args.stays.now c.requires.steps in
-    record {
-      held = rw (rest_of f.result.piece s.args.durations.now, rest_of at s.args.values.now, placed) (held-at-begin s.args.p s.args.durations.now s.args.values.now s.args.begin s.args.edges.now s.args.stays.now s.requires f.result f.ensures);
-      edges_len = has.same;
-      in_bounds = has.some_step;
-    }
+    let placed = started _ _ _ (sym c.start.ensures ∙ c.in-Some.is) in
+    rw (c.from.ensures, rest_of f.result.piece a.durations.now, rest_of (f.result.piece * a.p.channels) a.values.now, placed, c.ticks.ensures)
+    (held-at-begin a.p a.durations.now a.values.now a.begin a.edges.now a.stays.now c.requires f.result f.ensures)
 
 pub returns : goal.returns
 returns c =
-    let s = c in
+    let a = c.args in
     let f = c.find-found in
-    let placed : c.start-s.result ≡ at_begin s.args.p s.args.durations.now s.args.values.now s.args.begin s.args.edges.now s.args.stays.now s.requires f.result f.ensures = c.start-s.ensures ∙ rw c.ticks.ensures in
-    let at = f.result.piece * s.args.p.channels in
-    let ran = rw (rest_of f.result.piece s.args.durations.now, rest_of at s.args.values.now, placed) at c.score_from.ensures in
-    ran ∙ ap scored (outcome-at-begin s.args.p s.args.durations.now s.args.values.now s.args.begin s.args.edges.now s.args.stays.now s.requires f.result f.ensures)
+    let ran = rw (c.from.ensures, rest_of f.result.piece a.durations.now, rest_of (f.result.piece * a.p.channels) a.values.now, ← c.in-Some.is, c.start.ensures, c.ticks.ensures) at c.score_from.ensures in
+    ran ∙ ap scored (outcome-at-begin a.p a.durations.now a.values.now a.begin a.edges.now a.stays.now c.requires f.result f.ensures)

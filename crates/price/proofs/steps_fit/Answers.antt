@@ -4,4 +4,4 @@ use Rattle.price.proofs.steps_fit.Goals as goal
 
 pub returns : goal.returns
 unfolding steps_fit
-returns c = rw c.ticks.ensures
+returns c = rw (c.from.ensures, c.ticks.ensures)

@@ -1,38 +1,56 @@
--- `run` makes step after step: what will come of it all stays the same.
-use Prim.Native.Nat.{◌+◌}
-use native.Mathlib.Omega.{arith}
-use mathlib.Core.Path.{refl, sym, ap, ◌∙◌}
-use mathlib.Core.List.{List, ◌++◌}
-use lib.ListN.{drop}
+-- A step takes the first edge and the first stay of those left.
+use Rattle.std.proofs.Common.{◌∙◌, List, ◌++◌, sym, ap, Some}
+use Rattle.std.specs.Iterator.Adapters.{zip_first, zip_second}
+use Rattle.std.specs.Slice.Iter.{iter_rest}
+use Rattle.std.proofs.lemmas.Slice.Zip.{Zip-more, either_empty_from_Zip}
 use Rattle.record.specs.Run.{Step, steps_of}
 use Rattle.price_runs.specs.Stand.{outcome}
-use Rattle.price_runs.proofs.RunLaws.{steps-at, steps-none}
+use Rattle.price_runs.proofs.RunLaws.{steps-first, steps-none, no_outcome}
 use Rattle.price_runs.proofs.run.Goals as goal
 
-pub loop-i-init : goal.loop-i-init
-loop-i-init c = (omega arith, (c.requires.held, λ ys. refl))
+pub returns-in_err-at : goal.returns-in_err-at
+returns-in_err-at c =
+    let a = c.args in
+    let ds = a.lent.durations.now in
+    let vs = a.lent.values.now in
+    let it = c.loop-edge.edge-iterator in
+    let left = steps_of (iter_rest (zip_first c.next.new.self)) (iter_rest (zip_second c.next.new.self)) in
+    let more = Zip-more it c.next.new.self c.next.result (c.in-Some.edge, c.in-Some.stay) c.in-Some.is c.next.ensures.steps in
+    let stopped = rw c.in_err-at.was at c.step.ensures.same in
+    rw c.from_residual.ensures
+    (record {
+      held = tt;
+      same = λ ys.
+          no_outcome a.p ds vs ys (left ++ ys)
+          ∙ stopped (left ++ ys)
+          ∙ ap (λ (xs : List Step). outcome a.p ds vs (Some c.loop-edge.at) (xs ++ ys)) (sym (steps-first _ _ _ _ _ _ more.0 more.1))
+          ∙ c.loop-edge.invariant.same ys;
+    })
 
-pub offset_bounds-stays-i : goal.offset_bounds-stays-i
-offset_bounds-stays-i c = let e = c.requires.edges_len in omega arith
-
-pub bounds-stays-i : goal.bounds-stays-i
-bounds-stays-i c = let e = c.requires.edges_len in omega arith
-
-pub step-at-requires : goal.step-at-requires
-step-at-requires c = c.loop-i.invariant.1.0
-
-pub loop-i-preserved : goal.loop-i-preserved
-loop-i-preserved c =
-    let s = c in
-    let l = c.loop-i in
-    let same = s.requires.edges_len in
-    let es = s.args.edges.now in
-    let ss = s.args.stays.now in
-    (omega arith, (c.step-at.ensures.held, λ ys. c.step-at.ensures.same (drop (l.i + 1) (steps_of es ss) ++ ys) ∙ ap (λ (xs : List Step). outcome s.args.p s.args.durations.now s.args.values.now l.at (xs ++ ys)) (sym (steps-at es ss l.i same (omega arith))) ∙ l.invariant.1.1 ys))
+pub loop-edge-preserved : goal.loop-edge-preserved
+loop-edge-preserved c =
+    let a = c.args in
+    let ds = a.lent.durations.now in
+    let vs = a.lent.values.now in
+    let it = c.loop-edge.edge-iterator in
+    let left = steps_of (iter_rest (zip_first c.next.new.self)) (iter_rest (zip_second c.next.new.self)) in
+    let more = Zip-more it c.next.new.self c.next.result (c.in-Some.edge, c.in-Some.stay) c.in-Some.is c.next.ensures.steps in
+    record {
+      held = rw c.in_ok-at.was at c.step.ensures.held;
+      same = λ ys.
+          (rw c.in_ok-at.was at c.step.ensures.same) (left ++ ys)
+          ∙ ap (λ (xs : List Step). outcome a.p ds vs (Some c.loop-edge.at) (xs ++ ys)) (sym (steps-first _ _ _ _ _ _ more.0 more.1))
+          ∙ c.loop-edge.invariant.same ys;
+    }
 
 pub returns : goal.returns
 returns c =
-    let s = c in
-    let l = c.loop-i in
-    let none_left = steps-none s.args.edges.now s.args.stays.now l.i s.requires.edges_len (omega (arith, c.loop-i-test.false)) in
-    record { held = l.invariant.1.0; same = λ ys. sym (ap (λ (xs : List Step). outcome s.args.p s.args.durations.now s.args.values.now l.at (xs ++ ys)) none_left) ∙ l.invariant.1.1 ys }
+    let a = c.args in
+    let it = c.loop-edge.edge-iterator in
+    let none = either_empty_from_Zip it c.next.new.self c.next.result c.in-None.is c.next.ensures.steps in
+    record {
+      held = c.loop-edge.invariant.held;
+      same = λ ys.
+          ap (λ (xs : List Step). outcome a.p a.lent.durations.now a.lent.values.now (Some c.loop-edge.at) (xs ++ ys)) (sym (steps-none _ _ none))
+          ∙ c.loop-edge.invariant.same ys;
+    }

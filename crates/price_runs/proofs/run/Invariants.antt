@@ -1,14 +1,16 @@
--- `run` makes step after step: what will come of it all stays the same.
-use mathlib.Core.Path.{◌≡◌}
-use mathlib.Core.List.{List, ◌++◌}
-use Prim.Native.Nat.{◌-◌, ◌≤◌}
-use lib.ListN.{length, drop}
+-- `run` makes step after step: what will come of those left is what will come of all.
+use Rattle.std.proofs.Common.{◌≡◌, List, ◌++◌, Some}
+use Rattle.std.specs.Iterator.Adapters.{zip_first, zip_second}
+use Rattle.std.specs.Slice.Iter.{iter_rest}
 use Rattle.record.specs.Run.{Step, steps_of}
 use Rattle.price_runs.specs.Stand.{outcome, Held}
 use Rattle.price_runs.proofs.run.Given as goal
 
-abbrev pub invariant-loop-i : goal.invariant-loop-i
-invariant-loop-i l = (l.i ≤ length l.edges) × (Held l.p l.durations l.values l.at × ((ys : List Step) → outcome l.p l.durations l.values l.at (drop l.i (steps_of l.edges l.stays) ++ ys) ≡ outcome l.p l.durations l.values l.initial.at (steps_of l.edges l.stays ++ ys)))
-
-abbrev pub decreases-loop-i : goal.decreases-loop-i
-decreases-loop-i l = length l.edges - l.i
+abbrev pub invariant-loop-edge : goal.invariant-loop-edge
+invariant-loop-edge l =
+    record {
+      held : Held l.p l.lent.durations.now l.lent.values.now l.at;
+      same : (ys : List Step)
+          → outcome l.p l.lent.durations.now l.lent.values.now (Some l.at) (steps_of (iter_rest (zip_first l.edge-iterator)) (iter_rest (zip_second l.edge-iterator)) ++ ys)
+          ≡ outcome l.p l.lent.durations.now l.lent.values.now (Some l.initial.at) (steps_of l.edges l.stays ++ ys);
+    }

@@ -1,27 +1,20 @@
--- `step` makes the step or stops: not going, too long for the record, or no step there.
-use Rattle.record.specs.Run.{Step, can_step}
+-- `step` makes the step or answers none: too long for the record, no such edge, or it cannot be taken.
+use Rattle.std.proofs.Common.{◌≡◌, ◌≤◌, ◌<◌, ◌^◌, ◌∙◌, sym, ℕ, ℤ, nat_abs, Bool, List, get_or, arith, to_z, of_z}
+use Rattle.std.specs.Int.{w64}
 use Rattle.integers.proofs.Ranges.{abs_fits_64}
 use Rattle.integers.proofs.Casts.{read_back}
-use mir.Val.{to_z, of_z}
-use mir.Syntax.{w64}
-use Prim.Native.Nat.{ℕ, ◌<◌, ◌^◌}
-use native.Mathlib.Omega.{arith}
-use mathlib.Core.Path.{◌≡◌, sym, ◌∙◌}
-use Rattle.price_runs.proofs.RunLaws.{edge-at-sound, can_leave_lem, no_edge_lem, room, not_going, not-fitting, not_able}
-use Rattle.price_runs.specs.Stand.{can_leave, Held}
 use Rattle.pattern.specs.declared.Edge.{Edge}
+use Rattle.pattern.specs.declared.Place.{Place}
 use Rattle.pattern.specs.declared.Pattern.{Pattern}
-use Rattle.price_runs.specs.declared.Stand.{Stand}
 use Rattle.pattern.specs.Clocks.{Clocks, later}
-use Rattle.pattern.specs.InUse.{edge_at}
-use Rattle.pattern.specs.Sound.{no_edge}
+use Rattle.pattern.specs.InUse.{place_at, edge_at}
+use Rattle.pattern.specs.Sound.{no_place}
 use Rattle.pattern.proofs.SoundLaws.{parts}
-use Rattle.record.proofs.ListLaws.{get_d_any}
-use lib.ListN.{get_or}
-use lib.IntN.{ℤ}
-use mathlib.Core.List.{List}
-use mathlib.Core.Bool.{Bool}
-use Rattle.price_runs.proofs.step.Goals.{then-s+then-stay-s+then-k-p+else-can_leave, then-s+then-stay-s+else-k-p, then-s+else-stay-s, else-s}
+use Rattle.record.specs.Run.{Step, can_step, clocks_after}
+use Rattle.std.proofs.lemmas.List.{get_or_default}
+use Rattle.price_runs.specs.declared.Stand.{Stand}
+use Rattle.price_runs.specs.Stand.{can_leave, Held}
+use Rattle.price_runs.proofs.RunLaws.{edge-at-sound, edge_found, edge_lacked, can_leave_lem, no_edge_lem, room, walks, made, not-fitting, not_able}
 use Rattle.price_runs.proofs.step.Goals as goal
 
 module _ (p : Pattern) (ds : List ℕ) (vs : List ℤ) (s : Stand) (x : Step) (h : Held p ds vs s) where
@@ -29,57 +22,78 @@ module _ (p : Pattern) (ds : List ℕ) (vs : List ℤ) (s : Stand) (x : Step) (h
   reads-worth : to_z w64 (of_z w64 s.worth) ≡ s.worth
   reads-worth = let k = h.size in read_back w64 s.worth (abs_fits_64 s.worth (2 ^ 60) (omega arith) (omega arith))
 
-  -- the edge as the code reads it, whatever it would read past the array's end
-  edge-is : x.edge < p.edgecount → (d : Edge) → get_or p.edges x.edge d ≡ edge_at p x.edge
-  edge-is known d =
-      let e = (parts p h.sound).edges.long in
-      get_d_any p.edges x.edge d no_edge (omega (arith, (edge-at-sound p x.edge h.sound known).0))
+  -- the place as the code reads it, whatever it would read past the array's end
+  place_is : (k : ℕ) (d : Place) → k < p.placecount → get_or p.places k d ≡ place_at p k
+  place_is k d l =
+      let few = (parts p h.sound).places.few in
+      let long = (parts p h.sound).places.long in
+      get_or_default p.places k d no_place (omega arith)
 
   -- the step as the code tries it: the guards on the clocks as the stay leaves them
-  tried : (known : x.edge < p.edgecount) (d : Edge) (ticked : Clocks) (r : Bool)
+  tried : (e : Edge) (ticked : Clocks) (r : Bool) → (x.edge < p.edgecount) × (e ≡ edge_at p x.edge)
       → ticked ≡ later x.stay s.clocks
-      → r ≡ can_leave (get_or p.edges x.edge d) s.place x.stay ticked
+      → r ≡ can_leave e s.place x.stay ticked
       → can_step p s.place s.clocks x ≡ r
-  tried known d ticked r grew is =
-      can_leave_lem p s.place s.clocks x known
-      ∙ sym (is ∙ rw (grew, edge-is known d))
+  tried e ticked r found grew is = can_leave_lem p s.place s.clocks x found.0 ∙ sym (is ∙ rw (grew, found.1))
 
-pub bounds-p-k : goal.bounds-p-k
-bounds-p-k c = let a = c.args in (edge-at-sound a.p a.edge c.requires.sound c.if-k-p.true).0
-
-pub grown-ticked-requires : goal.grown-ticked-requires
-grown-ticked-requires c =
+pub returns-then-s-stay : goal.returns-then-s-stay
+returns-then-s-stay c =
     let a = c.args in
-    room a.p a.durations.now a.values.now a.s c.requires a.stay (omega (arith, c.if-stay-s.true))
+    not-fitting a.p a.lent.durations.now a.lent.values.now a.s c.requires (record { edge = a.edge; stay = a.stay }) c.if-s-stay.true
 
-pub take_step-requires : goal.take_step-requires
-take_step-requires c =
+pub returns-in_err-e : goal.returns-in_err-e
+returns-in_err-e c =
     let a = c.args in
-    let ds = a.durations.now in
-    let vs = a.values.now in
     let x : Step = record { edge = a.edge; stay = a.stay } in
-    let known = c.if-k-p.true in
-    let ticked = c.grown-ticked in
-    record {
-      held = c.requires;
-      able = record {
-        going = c.if-s.true;
-        can = tried a.p ds vs a.s x c.requires known _ ticked.result c.can_leave.result ticked.ensures c.can_leave.ensures ∙ c.if-can_leave.true;
-        fits = omega (arith, c.if-stay-s.true);
-      };
-      clocks_value = c.after_resets-reset.ensures ∙ rw (ticked.ensures, edge-is a.p ds vs a.s x c.requires known _);
-    }
+    let none = c.in_err-e.ensures.lookup in
+    rw c.from_residual.ensures
+    (not_able a.p a.lent.durations.now a.lent.values.now a.s c.requires x
+    (no_edge_lem a.p a.s.place a.s.clocks x (edge_lacked a.p a.edge c.in_use.result.now c.requires.sound c.in_use.ensures none.3)))
+
+pub returns-then-not-can_leave : goal.returns-then-not-can_leave
+returns-then-not-can_leave c =
+    let a = c.args in
+    let x : Step = record { edge = a.edge; stay = a.stay } in
+    not_able a.p a.lent.durations.now a.lent.values.now a.s c.requires x
+    (tried a.p a.lent.durations.now a.lent.values.now a.s x c.requires c.in_ok-e.field-0.now c.grown-clocks.result c.can_leave.result (edge_found a.p a.edge c.in_use.result.now c.in_ok-e.field-0.now c.in_use.ensures c.in_ok-e.ensures.lookup.3) c.grown-clocks.ensures c.can_leave.ensures ∙ c.if-not-can_leave.true)
+
+pub bounds-p-from : goal.bounds-p-from
+bounds-p-from c =
+    let a = c.args in
+    let few = (parts a.p c.requires.sound).places.few in
+    let found = edge_found a.p a.edge c.in_use.result.now c.in_ok-e.field-0.now c.in_use.ensures c.in_ok-e.ensures.lookup.3 in
+    rw (c.from.ensures, found.1) (omega (arith, (edge-at-sound a.p a.edge c.requires.sound found.0).1.0))
+
+pub stay_in-there-requires : goal.stay_in-there-requires
+stay_in-there-requires c =
+    let a = c.args in
+    let ds = a.lent.durations.now in
+    let vs = a.lent.values.now in
+    let x : Step = record { edge = a.edge; stay = a.stay } in
+    let h = c.requires in
+    let found = edge_found a.p a.edge c.in_use.result.now c.in_ok-e.field-0.now c.in_use.ensures c.in_ok-e.ensures.lookup.3 in
+    let ends = (edge-at-sound a.p a.edge h.sound found.0).1 in
+    rw (c.from.ensures, c.from-2.ensures, found.1, reads-worth a.p ds vs a.s x h)
+    (walks a.p ds vs a.s h _ _ a.stay (place_is a.p ds vs a.s x h _ _ ends.0) ends.0 c.if-s-stay.false)
 
 pub returns : goal.returns
 returns c =
     let a = c.args in
-    let ds = a.durations.now in
-    let vs = a.values.now in
+    let ds = a.lent.durations.now in
+    let vs = a.lent.values.now in
+    let there = c.stay_in-there in
     let x : Step = record { edge = a.edge; stay = a.stay } in
-    rw (reads-worth a.p ds vs a.s x c.requires)
-    (elim c.if-s.branch [
-      | then-s+then-stay-s+then-k-p+else-can_leave w ↦ not_able a.p ds vs a.s c.requires x (tried a.p ds vs a.s x c.requires w.if-k-p.true _ w.grown-ticked.result w.can_leave.result w.grown-ticked.ensures w.can_leave.ensures ∙ w.if-can_leave.false)
-      | then-s+then-stay-s+else-k-p w ↦ not_able a.p ds vs a.s c.requires x (no_edge_lem a.p a.s.place a.s.clocks x w.if-k-p.false)
-      | then-s+else-stay-s w ↦ not-fitting a.p ds vs a.s c.requires x w.if-stay-s.false
-      | else-s w ↦ not_going a.p ds vs a.s c.requires x w.if-s.false
-    ])
+    let h = c.requires in
+    let found = edge_found a.p a.edge c.in_use.result.now c.in_ok-e.field-0.now c.in_use.ensures c.in_ok-e.ensures.lookup.3 in
+    let ends = (edge-at-sound a.p a.edge h.sound found.0).1 in
+    let stayed = rw (c.from.ensures, c.from-2.ensures, found.1, place_is a.p ds vs a.s x h (edge_at a.p a.edge).from _ ends.0, reads-worth a.p ds vs a.s x h) at there.ensures in
+    let small : nat_abs there.result.worth ≤ 2 ^ 60 = let k = h.size in let f = c.if-s-stay.false in omega (arith, stayed.size) in
+    let can = tried a.p ds vs a.s x h c.in_ok-e.field-0.now c.grown-clocks.result c.can_leave.result found c.grown-clocks.ensures c.can_leave.ensures ∙ c.if-not-can_leave.false in
+    let clocks : c.after_resets.result ≡ clocks_after a.p a.s.clocks x = c.after_resets.ensures ∙ rw (c.grown-clocks.ensures, found.1) in
+    let worth = read_back w64 there.result.worth (abs_fits_64 there.result.worth (2 ^ 60) small (omega arith)) in
+    rw (← worth, ← clocks, ← found.1) at (made a.p ds vs a.s h x there.result can c.if-s-stay.false stayed)
+
+pub grown-clocks-requires : goal.grown-clocks-requires
+grown-clocks-requires c =
+    let a = c.args in
+    room a.p a.lent.durations.now a.lent.values.now a.s c.requires a.stay c.if-s-stay.false

@@ -1,13 +1,12 @@
 -- `stay_in` goes through piece after piece: the end, and the worth there, stay the same.
+use Rattle.std.proofs.Common.{arith, refl}
 use Rattle.price_stays.proofs.WalkLaws.{far_none, far-more, far-all}
-use native.Mathlib.Omega.{arith}
-use mathlib.Core.Path.{refl}
 use Rattle.price_stays.proofs.stay_in.Goals as goal
 
 pub loop-at-init : goal.loop-at-init
 loop-at-init c =
     let a = c.args in
-    far_none a.w a.l a.channels a.durations.now a.values.now a.s.piece a.s c.requires
+    far_none a.weighing a.place a.channels a.lent.durations.now a.lent.values.now a.s.piece a.s c.requires
 
 pub through-at-requires : goal.through-at-requires
 through-at-requires c = record { walks = c.loop-at.invariant.walks; left_nonzero = omega arith }
@@ -17,12 +16,10 @@ loop-at-smaller c = c.through-at.ensures.less
 
 pub loop-at-preserved : goal.loop-at-preserved
 loop-at-preserved c =
-    let l = c.loop-at in
     let a = c.args in
-    far-more a.w a.l a.channels a.durations.now a.values.now a.s.piece a.s l.at c.through-at.result l.invariant c.through-at.ensures
+    far-more a.weighing a.place a.channels a.lent.durations.now a.lent.values.now a.s.piece a.s c.loop-at.at c.through-at.result c.loop-at.invariant c.through-at.ensures
 
 pub returns : goal.returns
 returns c =
-    let l = c.loop-at in
     let a = c.args in
-    far-all a.w a.l a.channels a.durations.now a.values.now a.s.piece a.s l.at refl l.invariant (omega (arith, c.loop-at-test.false))
+    far-all a.weighing a.place a.channels a.lent.durations.now a.lent.values.now a.s.piece a.s c.loop-at.at refl c.loop-at.invariant (omega (arith, c.loop-at-test.false))

@@ -1,45 +1,26 @@
--- `steps_of` writes the numbers of all edges, one after the other.
-use Prim.Native.Nat.{ℕ, ◌/◌, ◌%◌}
+-- `steps_of` makes a step of each edge, one after the other.
+use Prim.Native.Nat.{◌<◌}
 use native.Mathlib.Omega.{arith}
-use mathlib.Core.Path.{◌∙◌}
-use lib.ListN.{length-replicate, length-set}
+use mathlib.Core.Path.{◌≡◌, ◌∙◌}
+use lib.ListN.{take, length-set}
+use Rattle.std.proofs.lemmas.List.{length-take, get_or-take}
 use Rattle.steps.specs.Steps.{edge_in}
-use Rattle.steps.specs.Made.{number_of}
 use Rattle.steps.proofs.Spans.{written-more, steps-made}
 use Rattle.steps.proofs.steps_of.Goals as goal
 
-pub overflow_mul-n : goal.overflow_mul-n
-overflow_mul-n c = let h = c.requires.0 in omega arith
-
-pub loop-k-init : goal.loop-k-init
-loop-k-init c = (omega arith, (length-replicate {A = ℕ} 416 0, λ j h. absurd (omega arith)))
-
-pub offset_bounds-edges-k : goal.offset_bounds-edges-k
-offset_bounds-edges-k c = let h = c.requires.0 in let i = c.loop-k-test.true in omega arith
-
-pub bounds-edges-k : goal.bounds-edges-k
-bounds-edges-k c = let h = c.requires.0 in let i = c.loop-k-test.true in omega arith
-
-pub offset_bounds-steps-k : goal.offset_bounds-steps-k
-offset_bounds-steps-k c = let h = c.requires.0 in let i = c.loop-k-test.true in omega arith
-
-pub bounds-steps-k : goal.bounds-steps-k
-bounds-steps-k c = let h = c.requires.0 in let i = c.loop-k-test.true in omega arith
-
-pub overflow_add-k : goal.overflow_add-k
-overflow_add-k c = let h = c.requires.0 in let i = c.loop-k-test.true in omega arith
-
-pub loop-k-preserved : goal.loop-k-preserved
-loop-k-preserved c =
-    let l = c.loop-k in
+pub loop-i-preserved : goal.loop-i-preserved
+loop-i-preserved c =
+    let l = c.loop-i in
     let a = c.args in
+    let low : l.i < a.count = omega (arith, length-take a.count a.edges) in
+    let e : edge_in (take a.count a.edges) l.i ≡ edge_in a.edges l.i = get_or-take a.count a.edges l.i _ low in
     let few = c.requires.0 in
-    let low = c.loop-k-test.true in
-    let long = l.invariant.1.0 in
-    (omega arith, (length-set l.steps l.k _ ∙ long, written-more l.steps (λ j. number_of (edge_in a.edges (j / 13)) (j % 13)) l.k _ (omega arith) c.number_of.ensures l.invariant.1.1))
+    let long = l.invariant.0 in
+    (length-set l.steps l.i _ ∙ long, written-more l.steps a.edges l.i _ (omega arith) (rw e at c.step_of.ensures) l.invariant.1)
 
 pub returns : goal.returns
-returns c = let st = c in
-    let l = c.loop-k in
-    let k = l.invariant.0 in
-    steps-made st.args.edges st.args.count l.steps st.requires.1 (λ j h. l.invariant.1.1 j (omega arith))
+returns c =
+    let st = c in
+    let l = c.loop-i in
+    let few = st.requires.0 in
+    steps-made st.args.edges st.args.count l.steps st.requires.1 (λ j h. l.invariant.1 j (omega (arith, length-take st.args.count st.args.edges)))

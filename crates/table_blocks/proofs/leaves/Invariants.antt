@@ -9,10 +9,19 @@ use Rattle.table.proofs.Steps.{rest}
 use Rattle.table.proofs.Kept.{Kept}
 use Rattle.table_blocks.proofs.leaves.Given as goal
 
+-- what is left to do, applied to the table and the report so far, is the whole
 abbrev pub invariant-loop-i : goal.invariant-loop-i
 invariant-loop-i l =
-    (l.i ≤ l.count) × ((l.i < l.count → (edge_in l.edges l.i).from ≡ l.p) × ((Kept ((l.n + 1) * l.l.row) l.initial.table l.table) × ((rest (λ j. leave_of l.l l.w l.n l.p l.clocks l.worth (edge_in l.edges j)) l.i (l.count - l.i) l.table ≡ rest (λ j. leave_of l.l l.w l.n l.p l.clocks l.worth (edge_in l.edges j)) l.initial.i (l.count - l.initial.i) l.initial.table) × ((rest (λ j. told_leave l.w l.tells l.n l.p l.clocks l.worth (edge_in l.edges j)) l.i (l.count - l.i) l.best ≡ rest (λ j. told_leave l.w l.tells l.n l.p l.clocks l.worth (edge_in l.edges j)) l.initial.i (l.count - l.initial.i) l.initial.best) × (Grown l.l l.table l.initial.flags l.flags)))))
+    record {
+      low : l.i ≤ l.g.count;
+      source : l.i < l.g.count → (edge_in l.g.edges l.i).from ≡ l.p;
+      kept : Kept ((l.n + 1) * l.g.layout.row) l.initial.table l.table;
+      moves : rest (λ j. leave_of l.g.layout l.g.weighing l.n l.p l.sent.clocks l.sent.worth (edge_in l.g.edges j)) l.i (l.g.count - l.i) l.table
+          ≡ rest (λ j. leave_of l.g.layout l.g.weighing l.n l.p l.sent.clocks l.sent.worth (edge_in l.g.edges j)) l.initial.i (l.g.count - l.initial.i) l.initial.table;
+      tells : rest (λ j. told_leave l.g.weighing l.tells l.n l.p l.sent.clocks l.sent.worth (edge_in l.g.edges j)) l.i (l.g.count - l.i) l.best
+          ≡ rest (λ j. told_leave l.g.weighing l.tells l.n l.p l.sent.clocks l.sent.worth (edge_in l.g.edges j)) l.initial.i (l.g.count - l.initial.i) l.initial.best;
+      grown : Grown l.g.layout l.table l.initial.flags l.flags;
+    }
 
 abbrev pub decreases-loop-i : goal.decreases-loop-i
-decreases-loop-i l =
-    l.count - l.i
+decreases-loop-i l = l.g.count - l.i

@@ -1,103 +1,77 @@
 -- `pass` visits a block, unless the gain is the mark or all its cells are. Before it the flag is raised of the block that its
 -- worths stay in.
-use Prim.Native.Nat.{◌+◌, ◌<◌, zero-le}
+use borrow.Author.Rules.{rules}
+use Prim.Native.Nat.{◌+◌, ◌<◌}
 use native.Mathlib.Omega.{arith}
 use mathlib.Core.Path.{◌≡◌, sym}
 use lib.ListN.{length}
+use mir.Syntax.{w64}
+use mir.Val.{to_z, of_z}
 use mir.Facts.{to_z-of_z}
-use Rattle.cells.proofs.Blocks.{row_fits}
 use Rattle.flags.specs.Flags.{flag_at}
 use Rattle.flags.proofs.Flags.{raised_is, grown-refl, grown-trans, raised-grown}
 use Rattle.table.proofs.Steps.{pass_is, pass_no}
 use Rattle.table.proofs.Told.{told_pass_lem, told_pass_no}
 use Rattle.table.proofs.Empty.{empty_pass, empty-told}
 use Rattle.table_blocks.proofs.pass.Goals as goal
-
-pub occupied-start-requires : goal.occupied-start-requires
-occupied-start-requires c =
-    let st = c in
-    let f = row_fits st.args.l st.args.n st.requires.0.low in
-    let i = st.requires.0.inside in
-    let x = st.requires.0.apart in
-    (omega arith, zero-le)
-
-pub overflow_add-n : goal.overflow_add-n
-overflow_add-n c =
-    let st = c in
-    let h = st.requires.0.low in
-    let s = st.requires.0.laid.short in
-    omega arith
-
-pub overflow_add-l : goal.overflow_add-l
-overflow_add-l c =
-    let st = c in
-    let h = st.requires.0.place in
-    let s = st.requires.0.laid.few in
-    omega arith
-
-pub raise-requires : goal.raise-requires
-raise-requires c =
-    let st = c in
-    let n = st.requires.0.low in
-    let k = st.requires.2.long in
-    let h = st.requires.0.place in
-    let s = st.requires.0.laid.few in
-    (omega arith, omega arith)
+use Rattle.table_blocks.proofs.pass.Goals.{else-b-gt-MARK-via-then-b-gt-MARK+else-held, else-b-gt-MARK-via-else-b-gt-MARK}
 
 pub visits-requires : goal.visits-requires
 visits-requires c =
-    let st = c in
-    let a = st.args in
-    let n = st.requires.0.low in
-    let k = st.requires.2.long in
-    let inside : a.n + 1 < length a.flags.now = omega arith in
-    let q = to_z-of_z st.ranges.gain in
+    let a = c.args in
+    let g = a.g.now in
+    let b = a.b in
+    let n = c.requires.0.low in
+    let k = c.requires.1.long in
+    let inside : b.len + 1 < length a.flags.now = omega arith in
+    let q : to_z w64 (of_z w64 b.gain) ≡ b.gain = to_z-of_z {w = w64} {z = b.gain} (record { sfits = search rules }) in
     let e = c.raise.ensures in
-    let i : a.l.places + a.p ≡ flag_at a.l 1 a.p = omega arith in (
-      rw q st.requires.0,
-      st.requires.1,
-      c.if-gain-gt-MARK.true,
-      c.occupied-start.ensures,
-      rw e (raised-grown a.l st.requires.0.laid a.table.now a.flags.now (a.n + 1) (a.l.places + a.p) inside st.requires.2).flagged,
-      rw (e, i) (raised_is a.flags.now (a.n + 1) (flag_at a.l 1 a.p) inside),
+    let i : g.layout.places + b.place ≡ flag_at g.layout 1 b.place = omega arith in (
+      c.requires.0,
+      rw q at c.if-b-gt-MARK.true,
+      c.occupied-first.ensures,
+      rw e (raised-grown g.layout g.laid a.table.now a.flags.now (b.len + 1) (g.layout.places + b.place) inside c.requires.1).flagged,
+      rw (e, i) (raised_is a.flags.now (b.len + 1) (flag_at g.layout 1 b.place) inside),
     )
 
 pub returns-then-held : goal.returns-then-held
 returns-then-held c =
-    let st = c in
-    let a = st.args in
-    let n = st.requires.0.low in
-    let k = st.requires.2.long in
-    let inside : a.n + 1 < length a.flags.now = omega arith in
-    let q = to_z-of_z st.ranges.gain in
-    let m = rw q at c.if-gain-gt-MARK.true in
+    let a = c.args in
+    let g = a.g.now in
+    let b = a.b in
+    let n = c.requires.0.low in
+    let k = c.requires.1.long in
+    let inside : b.len + 1 < length a.flags.now = omega arith in
+    let q : to_z w64 (of_z w64 b.gain) ≡ b.gain = to_z-of_z {w = w64} {z = b.gain} (record { sfits = search rules }) in
+    let m = rw q at c.if-b-gt-MARK.true in
     let e = c.visits.ensures in
-    let up = raised-grown a.l st.requires.0.laid a.table.now a.flags.now (a.n + 1) (a.l.places + a.p) inside st.requires.2 in
+    let up = raised-grown g.layout g.laid a.table.now a.flags.now (b.len + 1) (g.layout.places + b.place) inside c.requires.1 in
     record {
-      value = told_pass_lem a.l a.w a.edges a.count a.tells.now a.gain a.n a.p a.at a.table.now a.r _ m (rw q at e.value);
-      table_after = pass_is a.l a.w a.edges a.count a.gain a.n a.p a.at a.table.now _ m (rw q at e.table_after);
+      value = told_pass_lem g.layout g.weighing g.edges g.count a.tells.now b.gain b.len b.place b.start a.table.now a.r _ m e.value;
+      table_after = pass_is g.layout g.weighing g.edges g.count b.gain b.len b.place b.start a.table.now _ m e.table_after;
       grown = grown-trans up (rw c.raise.ensures at e.grown);
     }
 
--- a block of marks alone
-pub returns-else-held : goal.returns-else-held
-returns-else-held c =
-    let st = c in
-    let a = st.args in
-    let e = st.requires.3 c.if-held.false in
-    record {
-      value = sym (empty-told a.l a.w a.edges a.count a.table.now a.gain a.n a.p a.at e a.tells.now a.r);
-      table_after = sym (empty_pass a.l a.w a.edges a.count a.table.now a.gain a.n a.p a.at e);
-      grown = grown-refl st.requires.2;
-    }
-
-pub returns-else-gain-gt-MARK : goal.returns-else-gain-gt-MARK
-returns-else-gain-gt-MARK c =
-    let st = c in
-    let a = st.args in
-    let m = rw (to_z-of_z st.ranges.gain) at c.if-gain-gt-MARK.false in
-    record {
-      value = told_pass_no a.l a.w a.edges a.count a.tells.now a.gain a.n a.p a.at a.table.now a.r m;
-      table_after = pass_no a.l a.w a.edges a.count a.gain a.n a.p a.at a.table.now m;
-      grown = grown-refl st.requires.2;
-    }
+pub returns : goal.returns
+returns c =
+    let a = c.args in
+    let g = a.g.now in
+    let b = a.b in
+    let q : to_z w64 (of_z w64 b.gain) ≡ b.gain = to_z-of_z {w = w64} {z = b.gain} (record { sfits = search rules }) in
+    elim c.else-b-gt-MARK.branch [
+      -- a block of marks alone
+      | else-b-gt-MARK-via-then-b-gt-MARK+else-held w ↦
+          let e = c.requires.2 w.if-held.false in
+          record {
+            value = sym (empty-told g.layout g.weighing g.edges g.count a.table.now b.gain b.len b.place b.start e a.tells.now a.r);
+            table_after = sym (empty_pass g.layout g.weighing g.edges g.count a.table.now b.gain b.len b.place b.start e);
+            grown = grown-refl c.requires.1;
+          }
+      | else-b-gt-MARK-via-else-b-gt-MARK w ↦
+          let m = rw q at w.if-b-gt-MARK.false in
+          record {
+            value = told_pass_no g.layout g.weighing g.edges g.count a.tells.now b.gain b.len b.place b.start a.table.now a.r m;
+            table_after = pass_no g.layout g.weighing g.edges g.count b.gain b.len b.place b.start a.table.now m;
+            grown = grown-refl c.requires.1;
+          }
+    ]

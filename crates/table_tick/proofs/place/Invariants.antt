@@ -1,5 +1,5 @@
 -- `place` moves the cells just entered and then those staying; the row that it reads lies before the row that it writes.
-use Prim.Native.Nat.{◌+◌, ◌-◌, ◌*◌, ◌≤◌}
+use Prim.Native.Nat.{◌+◌, ◌*◌}
 use mathlib.Core.Path.{◌≡◌}
 use Rattle.flags.specs.Flags.{Grown}
 use Rattle.table.specs.Moves.{each}
@@ -9,8 +9,9 @@ use Rattle.table_tick.proofs.place.Given as goal
 
 abbrev pub invariant-loop-stage : goal.invariant-loop-stage
 invariant-loop-stage l =
-    (l.stage ≤ 2) × ((Kept ((l.n + 1) * l.l.row) l.initial.table l.table) × ((l.table ≡ each (stage_pass l.l l.w l.edges l.count l.entered l.staying l.n l.p) l.stage l.initial.table) × ((l.best ≡ each (stage_told l.l l.w l.edges l.count l.entered l.staying l.n l.p l.tells l.initial.table) l.stage l.initial.best) × (Grown l.l l.table l.initial.flags l.flags))))
-
-abbrev pub decreases-loop-stage : goal.decreases-loop-stage
-decreases-loop-stage l =
-    2 - l.stage
+    record {
+      kept : Kept ((l.n + 1) * l.g.layout.row) l.initial.table l.table;
+      moved : l.table ≡ each (stage_pass l.g.layout l.g.weighing l.g.edges l.g.count l.entered l.staying l.n l.p) l.stage l.initial.table;
+      told : l.best ≡ each (stage_told l.g.layout l.g.weighing l.g.edges l.g.count l.entered l.staying l.n l.p l.tells l.initial.table) l.stage l.initial.best;
+      grown : Grown l.g.layout l.table l.initial.flags l.flags;
+    }

@@ -1,5 +1,5 @@
 -- `rows` goes from the longest row to the shortest: what is still to do, applied to the table so far, is the whole.
-use Prim.Native.Nat.{◌*◌, ◌≤◌}
+use Prim.Native.Nat.{◌*◌}
 use mathlib.Core.Path.{◌≡◌}
 use lib.ListN.{length}
 use Rattle.flags.specs.Flags.{Flagged}
@@ -10,7 +10,12 @@ use Rattle.table_tick.proofs.rows.Given as goal
 
 abbrev pub invariant-loop-n : goal.invariant-loop-n
 invariant-loop-n l =
-    (l.n ≤ l.l.high) × ((length l.table ≡ length l.initial.table) × ((rows_of l.l l.w l.v l.edges l.count l.n l.table ≡ rows_of l.l l.w l.v l.edges l.count l.l.high l.initial.table) × ((Bounded l.table 0 (l.n * l.l.row)) × ((told_rows l.l l.w l.v l.edges l.count l.ends l.low l.n l.table l.best ≡ told_rows l.l l.w l.v l.edges l.count l.ends l.low l.l.high l.initial.table l.initial.best) × ((length l.flags ≡ length l.initial.flags) × (Flagged l.l l.table l.flags))))))
-
-abbrev pub decreases-loop-n : goal.decreases-loop-n
-decreases-loop-n l = l.n
+    record {
+      long : length l.table ≡ length l.initial.table;
+      moved : rows_of l.g.layout l.g.weighing l.v l.g.edges l.g.count l.n l.table ≡ rows_of l.g.layout l.g.weighing l.v l.g.edges l.g.count l.g.layout.high l.initial.table;
+      bounded : Bounded l.table 0 (l.n * l.g.layout.row);
+      told : told_rows l.g.layout l.g.weighing l.v l.g.edges l.g.count l.g.ends l.g.low l.n l.table l.best
+          ≡ told_rows l.g.layout l.g.weighing l.v l.g.edges l.g.count l.g.ends l.g.low l.g.layout.high l.initial.table l.initial.best;
+      flags_long : length l.flags ≡ length l.initial.flags;
+      flagged : Flagged l.g.layout l.table l.flags;
+    }

@@ -1,5 +1,5 @@
 -- `wipe_blocks` goes block by block; those to come are as they were.
-use Prim.Native.Nat.{◌-◌, ◌*◌, ◌≤◌}
+use Prim.Native.Nat.{◌*◌}
 use mathlib.Core.Path.{◌≡◌}
 use lib.ListN.{length}
 use Rattle.table.specs.Moves.{marked}
@@ -7,8 +7,4 @@ use Rattle.table_tick.proofs.wipe_blocks.Given as goal
 
 abbrev pub invariant-loop-i : goal.invariant-loop-i
 invariant-loop-i l =
-    (l.i ≤ l.count) × ((length l.table ≡ length l.initial.table) × (l.table ≡ marked l.initial.table l.from (l.i * l.size)))
-
-abbrev pub decreases-loop-i : goal.decreases-loop-i
-decreases-loop-i l =
-    l.count - l.i
+    (length l.table ≡ length l.initial.table) × (l.table ≡ marked l.initial.table l.from (l.i * l.size))

@@ -3,4 +3,4 @@ use Rattle.watch_text.proofs.put_heading.Goals as goal
 
 pub returns : goal.returns
 unfolding heading
-returns c = c.put_word.ensures
+returns c = c.word.ensures

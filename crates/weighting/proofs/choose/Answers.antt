@@ -1,5 +1,5 @@
 -- `choose` is the better of what the cell holds and the worth; a cell with the mark holds nothing.
-use Rattle.std.proofs.Common.{◌∙◌, SFits}
+use Rattle.std.proofs.Common.{◌∙◌}
 use Rattle.std.specs.Int.{w64}
 use mir.Facts.{to_z-of_z}
 use Rattle.weighting.specs.Weightings.{scale_of}

@@ -1,31 +1,23 @@
-use native.Mathlib.Omega.{arith}
-use mathlib.Core.Path.{◌≡◌, refl, ap, ◌∙◌}
-use Prim.Native.Nat.{◌≤◌, ◌<◌, ◌-◌, min}
+use Rattle.std.proofs.Common.{arith, ◌∙◌, refl}
 use mathlib.Core.List.{flat_map}
-use lib.ListN.{length, length-map, take}
-use Rattle.pattern.specs.InUse.{guards_of}
+use lib.Seq.{take_all}
 use Rattle.pattern.specs.Cells.{bounds_on, largest, ceiling_of}
-use Rattle.pattern.proofs.ListLaws.{take-in_use}
 use Rattle.pattern.proofs.CeilingLaws.{edge_more}
 use Rattle.pattern.proofs.clocks.ceiling.Goals as goal
 
-pub loop-i-init : goal.loop-i-init
+pub loop-e-init : goal.loop-e-init
 unfolding bounds_on largest flat_map
-loop-i-init c = (omega arith, (omega arith, refl))
+loop-e-init c = record { fits = omega arith; is = refl }
 
-pub loop-i-preserved : goal.loop-i-preserved
-loop-i-preserved c =
-    let l = c.loop-i in
-    let a = c.args in
-    let n = c.in_use-n.ensures in
-    let e : length c.args.p.edges ≡ 32 = omega arith in
-    (omega arith, (c.largest_bound-most.type_inv, c.largest_bound-most.ensures ∙ rw l.invariant.1.1 (edge_more a.clock l.i a.p.edges _ (omega arith))))
+pub loop-e-preserved : goal.loop-e-preserved
+loop-e-preserved c =
+    let l = c.loop-e in
+    record {
+      fits = c.largest_bound-most.type_inv;
+      is = c.largest_bound-most.ensures ∙ rw l.invariant.is (edge_more c.args.clock l.e-index c.in_use-e-items.result.now _ (omega arith));
+    }
 
 pub returns : goal.returns
 unfolding ceiling_of
 returns c =
-    let l = c.loop-i in
-    let a = c.args in
-    let n = c.in_use-n.ensures in
-    let i-is : l.i ≡ min a.p.edgecount 32 = omega arith in
-    rw (l.invariant.1.1, i-is, take-in_use a.p.edgecount 32 a.p.edges (omega arith))
+    rw (c.from.ensures, c.loop-e.invariant.is, take_all c.loop-e.e-index c.in_use-e-items.result.now (omega arith), c.in_use-e-items.ensures)

@@ -4,7 +4,6 @@ use mir.Val.{SFits, to_z, of_z}
 use mir.Facts.{to_z-of_z}
 use Rattle.pattern.specs.Distance.{distance_of}
 use Rattle.pattern.proofs.DistanceLaws.{distance_size}
-use borrow.Author.Rules.{rules}
 use Rattle.pattern.proofs.distance.distance_in.Goals as goal
 
 pub returns : goal.returns

@@ -1,6 +1,5 @@
 use mir.Facts.{to_z-of_z}
 use Rattle.pattern.specs.Sound.{band_in_range}
-use borrow.Author.Rules.{rules}
 use Rattle.pattern.proofs.slots.band_in_range.Goals as goal
 
 pub returns : goal.returns

@@ -1,5 +1,4 @@
 use Rattle.pattern.specs.Sound.{edge_sound}
-use borrow.Author.Rules.{rules}
 use Rattle.pattern.proofs.slots.edge_sound.Goals as goal
 
 pub returns : goal.returns

@@ -4,7 +4,6 @@ use lib.Dec.{eqb}
 use Rattle.pattern.specs.Sound.{guard_unused, edge_unused}
 use Rattle.pattern.specs.Slots.{slots}
 use Rattle.pattern.proofs.SlotLaws.{none_used}
-use borrow.Author.Rules.{rules}
 use Rattle.pattern.proofs.slots.edge_unused.Goals as goal
 
 pub returns : goal.returns

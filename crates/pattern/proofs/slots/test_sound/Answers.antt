@@ -1,5 +1,4 @@
 use Rattle.pattern.specs.Sound.{test_known, test_sound}
-use borrow.Author.Rules.{rules}
 use Rattle.pattern.proofs.slots.test_sound.Goals as goal
 
 pub returns : goal.returns

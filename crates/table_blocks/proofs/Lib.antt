@@ -1,0 +1,2 @@
+-- The next cell to visit.
+pub mod Spots

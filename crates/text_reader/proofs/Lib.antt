@@ -1,0 +1,2 @@
+-- Laws: what is left of a text.
+pub mod Left
