@@ -11,11 +11,11 @@ ghost use Rattle.best.specs.Best.{chosen_with, run_of, best_of, found_as, best_n
 ghost use Rattle.best.specs.Best.{best_first, best_second};
 ghost use Rattle.best.specs.Search.{book_in, table_to, chosen_in, chosen_past, chunk_of, SearchedTo, passed, Fit};
 
-use cells::layout_of;
 use feed::open;
 use feed_moves::{feed_piece, flag_opened};
 use monitor::State;
-use pattern::{Pattern, Refusal, sound};
+use monitor::plan::Plan;
+use pattern::{Pattern, Refusal};
 use record::Record;
 use record::rules::record_sound;
 use weighting::at_least;
@@ -81,7 +81,7 @@ pub fn choose_all(
 // Up to 64 ticks with the same values. Of a second table only the length would count, so the first stands for it.
 // The table and its flags come apart, here and below, as in crate `table`.
 fn feed_some(
-    p: Pattern,
+    p: Plan,
     ticks: u32,
     values: &[i32],
     s: Search,
@@ -102,11 +102,9 @@ fn feed_some(
 {
     let mut scores = [0; 64];
     let mut lengths = [0; 64];
-    let l = layout_of(p, p.high);
     let state = feed_piece(
         s.state,
         p,
-        l,
         first,
         flags,
         ticks,
@@ -114,13 +112,14 @@ fn feed_some(
         &mut scores,
         &mut lengths,
     );
-    let choice = choose_all(p, s.choice, s.state.ticks, ticks, &scores, &lengths);
+    let Plan { pattern, .. } = p;
+    let choice = choose_all(pattern, s.choice, s.state.ticks, ticks, &scores, &lengths);
     Search { state, choice }
 }
 
 // The first `count` ticks of a piece, in chunks. What is left decides each: steps of 64 would need the same `min`.
 fn feed_part(
-    p: Pattern,
+    p: Plan,
     record: Record,
     piece: usize,
     count: u32,
@@ -137,7 +136,8 @@ fn feed_part(
         (total (take piece record.entry.durations.now) + count)) first.old }
     ensures flagged { Flagged (layout p) first.new flags.new }
 {
-    let channels = usize::from(p.channels);
+    let Plan { pattern, .. } = p;
+    let channels = usize::from(pattern.channels);
     let at = piece * channels;
     let sample = &record.values[at..at + channels];
     let mut left = count;
@@ -164,7 +164,7 @@ fn pass_rest(s: Search, rest: u32) -> Search
 
 // One piece. All its ticks but the first are alike, so after high + 1 ticks the table stands still, and the rest passes.
 fn feed_whole(
-    p: Pattern,
+    p: Plan,
     record: Record,
     piece: usize,
     s: Search,
@@ -181,13 +181,14 @@ fn feed_whole(
     ensures flagged { Flagged (layout p) first.new flags.new }
 {
     let duration = record.durations[piece];
-    let moved = duration.min(u32::from(p.high) + 1);
+    let Plan { pattern, .. } = p;
+    let moved = duration.min(u32::from(pattern.high) + 1);
     let search = feed_part(p, record, piece, moved, s, first, flags);
     pass_rest(search, duration - moved)
 }
 
 // All pieces.
-fn feed_all(p: Pattern, record: Record, s: Search, first: &mut [i64], flags: &mut [u32]) -> Search
+fn feed_all(p: Plan, record: Record, s: Search, first: &mut [i64], flags: &mut [u32]) -> Search
     requires { (Fit p record.durations.now record.values.now 0 s first.old) × (Flagged (layout p) first.old flags.old) }
     ensures searched_to { SearchedTo p (book_in p record.entry)
         (total record.entry.durations.now) result }
@@ -236,20 +237,18 @@ pub fn best(
     ensures second_after { second.new
         ≡ best_second p durations.now values.now first.old second.old }
 {
-    if !sound(p) {
-        return Err(Refusal::UnsoundPattern);
-    }
+    let plan = Plan::new(p)?;
     if !record_sound(p.channels, durations, values) {
         return Err(Refusal::BrokenRecord);
     }
     let state = open(p, first, second)?;
     let mut flags = [0; 4096];
-    flag_opened(p, &mut flags);
+    flag_opened(plan, &mut flags);
     let record = Record { durations, values };
     let start = Search {
         state,
         choice: None,
     };
-    let end = feed_all(p, record, start, first, &mut flags);
+    let end = feed_all(plan, record, start, first, &mut flags);
     Ok(told(end.choice))
 }

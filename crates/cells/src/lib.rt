@@ -1,13 +1,12 @@
 // Where a cell stands in a monitor's table, and which clocks it has (document 01, 'Monitor tables').
 #![tactic(auto)]
 
-ghost use Rattle.std.specs.Prelude.{◌≡◌, true, ◌+◌, ◌-◌, ◌≤◌, ◌<◌, min};
-ghost use Rattle.pattern.specs.Sound.{sound_of};
+ghost use Rattle.std.specs.Prelude.{◌≡◌, ◌+◌, ◌-◌, ◌≤◌, ◌<◌, min};
 ghost use Rattle.cells.specs.Layout.{layout_of, Laid};
 ghost use Rattle.cells.specs.Index.{code_of, clocks_at, ticked, Within, block_at, Placed};
 
-use pattern::Pattern;
 use pattern::clocks::radix;
+use pattern::sound_pattern::SoundPattern;
 
 // What the index needs: the greatest length, the places, a radix for each of four clocks; then the cells of a block
 // (one length, stage and place) and of a row (one length). That it is `Laid` is no ghost field: definitions speak of the
@@ -21,21 +20,19 @@ pub struct Layout {
     pub row: usize,
 }
 
-// A pattern's layout for runs of up to `longest` ticks. It widens by `as`: with `usize::from` two goals stay open.
-// Sound, and no type of sound patterns: document 01 has an answer for every value of a pattern (7).
-pub fn layout_of(p: Pattern, longest: u16) -> Layout
-    requires { sound_of p ≡ true }
+// A pattern's layout for runs of up to `longest` ticks.
+pub fn layout_of(p: SoundPattern, longest: u16) -> Layout
     ensures { result ≡ layout_of p longest }
 {
-    let a = radix(p, 0);
-    let b = radix(p, 1);
-    let c = radix(p, 2);
-    let d = radix(p, 3);
-    let places = p.placecount as usize;
+    let a = radix(p.pattern, 0);
+    let b = radix(p.pattern, 1);
+    let c = radix(p.pattern, 2);
+    let d = radix(p.pattern, 3);
+    let places = usize::from(p.pattern.placecount);
     let block = (a * b * c * d) as usize;
     let radices = [a as usize, b as usize, c as usize, d as usize];
     Layout {
-        high: longest as usize,
+        high: usize::from(longest),
         places,
         radices,
         block,

@@ -7,7 +7,6 @@ ghost use Rattle.monitor.specs.Open.{answer_number, open_number, open_first, ope
 ghost use Rattle.monitor.specs.Feed.{feed_number, feed_first, feed_second, feed_scores, feed_lengths};
 ghost use Rattle.feed.specs.After.{opened_of, call_of, fed_of};
 
-use cells::layout_of;
 use feed_checks::{feed_refusal, open_refusal};
 use feed_moves::{feed_piece, mark_all, open_both};
 use monitor::State;
@@ -21,8 +20,8 @@ pub fn open(p: Pattern, first: &mut [i64], second: &mut [i64]) -> Result<State, 
     ensures first_after { first.new ≡ open_first p first.old second.old }
     ensures second_after { second.new ≡ open_second p first.old second.old }
 {
-    open_refusal(p, first.len(), second.len())?;
-    open_both(p, first, second);
+    let plan = open_refusal(p, first.len(), second.len())?;
+    open_both(plan, first, second);
     Ok(State::no_ticks())
 }
 
@@ -51,7 +50,7 @@ fn feed_with(
     ensures lengths_after { lengths.new ≡ feed_lengths p s first.old second.old
         (call_of duration values.now scores.old lengths.old) }
 {
-    feed_refusal(
+    let plan = feed_refusal(
         p,
         s,
         first,
@@ -62,9 +61,8 @@ fn feed_with(
         lengths.len(),
         flags,
     )?;
-    let l = layout_of(p, p.high);
-    let later = feed_piece(s, p, l, first, flags, duration, values, scores, lengths);
-    mark_all(p, l, second);
+    let later = feed_piece(s, plan, first, flags, duration, values, scores, lengths);
+    mark_all(plan, second);
     Ok(later)
 }
 

@@ -17,10 +17,11 @@ ghost use Rattle.monitor.specs.Open.{answer_of, open_refusal};
 ghost use Rattle.monitor.specs.Feed.{cell_fine, piece_broken, cells_broken, feed_cause};
 ghost use Rattle.feed_checks.specs.Mark.{is_mark};
 
-use cells::{Layout, layout_of};
+use cells::Layout;
 use flags::with_bit;
 use monitor::State;
-use pattern::{Pattern, Refusal, cells};
+use monitor::plan::Plan;
+use pattern::{Pattern, Refusal};
 use record::rules::all_in_range;
 use table_blocks::occupied;
 use weighting::MARK;
@@ -166,13 +167,12 @@ pub fn cells_broken(table: &[i64], l: Layout, flags: &mut [u32]) -> bool
 
 // A first table that is long enough: 14, or the flags of its blocks that hold a worth.
 #[tactic(auto, using(crate::proofs::Counts::broken_is))]
-fn flag_cells(p: Pattern, first: &[i64], flags: &mut [u32]) -> Result<(), Refusal>
-    requires { (sound_of p ≡ true) × (cells_needed p ≤ length first.now) × (p.high < length flags.old) }
+fn flag_cells(p: Plan, first: &[i64], flags: &mut [u32]) -> Result<(), Refusal>
+    requires { (cells_needed p ≤ length first.now) × (p.high < length flags.old) }
     ensures value { result ≡ cond (cells_broken p first.now) (Err BrokenCell) (Ok tt) }
     ensures flagged { Flagged (layout p) first.now flags.new }
 {
-    let l = layout_of(p, p.high);
-    if cells_broken(first, l, flags) {
+    if cells_broken(first, p.layout, flags) {
         Err(Refusal::BrokenCell)
     } else {
         Ok(())
@@ -180,29 +180,29 @@ fn flag_cells(p: Pattern, first: &[i64], flags: &mut [u32]) -> Result<(), Refusa
 }
 
 // Either of two lengths is below what is needed.
-fn too_short(first: usize, second: usize, needed: u64) -> bool
+fn too_short(first: usize, second: usize, needed: usize) -> bool
     ensures { result ≡ ltb first needed || ltb second needed }
 {
-    (first as u64) < needed || (second as u64) < needed
+    first < needed || second < needed
 }
 
-// Opening: 7, then 11. The tables' lengths are all that counts of them.
-#[tactic(auto, unfolding(monitor::specs::Open::open_refusal), using(crate::proofs::Counts::counted, crate::proofs::Counts::refused))]
-pub fn open_refusal(p: Pattern, first: usize, second: usize) -> Result<(), Refusal>
-    ensures { result ≡ answer_of tt (open_refusal p first second) }
+// Opening: 7, then 11; else the plan that the opening goes by. The tables' lengths are all that counts of them.
+#[tactic(auto, unfolding(monitor::specs::Open::open_refusal), using(pattern::proofs::Judged::accepted, pattern::proofs::Judged::refused))]
+pub fn open_refusal(p: Pattern, first: usize, second: usize) -> Result<Plan, Refusal>
+    ensures { result ≡ answer_of p (open_refusal p first second) }
 {
-    let needed = cells(p)?;
-    if too_short(first, second, needed) {
+    let plan = Plan::new(p)?;
+    if too_short(first, second, plan.cells()) {
         Err(Refusal::TableTooShort)
     } else {
-        Ok(())
+        Ok(plan)
     }
 }
 
-// Feeding: 7, 12, 11, 8, 13, 14, 6, each looked for only where the ones before it give no cause. Of the second table
-// and of the report slices only the lengths count. Where there is no cause, the flags are right for the first table.
+// Feeding: 7, 12, 11, 8, 13, 14, 6, each looked for only where the ones before it give no cause; else the plan that the feed goes by.
+// Of the second table and of the report slices only the lengths count. Where there is no cause, the flags are right for the first table.
 // The lent values come one by one, as a host in C lends them.
-#[tactic(auto, unfolding(monitor::specs::Feed::feed_cause), using(crate::proofs::Counts::counted, crate::proofs::Counts::refused))]
+#[tactic(auto, unfolding(monitor::specs::Feed::feed_cause), using(pattern::proofs::Judged::accepted, pattern::proofs::Judged::refused))]
 pub fn feed_refusal(
     p: Pattern,
     s: State,
@@ -213,18 +213,18 @@ pub fn feed_refusal(
     scores: usize,
     lengths: usize,
     flags: &mut [u32],
-) -> Result<(), Refusal>
+) -> Result<Plan, Refusal>
     requires { sound_of p ≡ true → p.high < length flags.old }
-    ensures value { result ≡ answer_of tt
+    ensures value { result ≡ answer_of p
         (feed_cause p s first.now second duration values.now scores lengths) }
     ensures flagged { feed_cause p s first.now second duration values.now scores lengths ≡ none
         → Flagged (layout p) first.now flags.new }
 {
-    let needed = cells(p)?;
+    let plan = Plan::new(p)?;
     if !state_sound(p, s) {
         return Err(Refusal::BrokenState);
     }
-    if too_short(first.len(), second, needed) {
+    if too_short(first.len(), second, plan.cells()) {
         return Err(Refusal::TableTooShort);
     }
     if piece_broken(p, duration, values) {
@@ -233,9 +233,9 @@ pub fn feed_refusal(
     if 2147483647 < u64::from(s.ticks) + u64::from(duration) {
         return Err(Refusal::TooManyTicks);
     }
-    flag_cells(p, first, flags)?;
-    if too_short(scores, lengths, u64::from(duration)) {
+    flag_cells(plan, first, flags)?;
+    if too_short(scores, lengths, duration as usize) {
         return Err(Refusal::OutputTooShort);
     }
-    Ok(())
+    Ok(plan)
 }

@@ -69,10 +69,6 @@ module _ (p : Pattern) (sound : sound_of p ≡ true) where
   abbrev pub ground : Common
   ground = common_of p
 
-  -- a layout that is the pattern's has its parts in order and as many cells as needed
-  pub layout-made : (l : Layout) → l ≡ layout p → Laid l × (cells_in l ≡ cells_needed p)
-  layout-made l e = (subst Laid (sym e) (laid p sound), ap cells_in e ∙ cells_are p sound)
-
   places-long : (k : ℕ) → k < p.placecount → k < length p.places
   places-long k h = let s = (parts p sound).places in let f = s.few in let l = s.long in omega arith
 

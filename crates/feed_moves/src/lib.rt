@@ -3,7 +3,6 @@
 
 ghost use Rattle.std.specs.Prelude.{◌≡◌, true, false, ◌≤◌, ◌<◌, List, ◌++◌, length, take, drop, ℤ};
 ghost use Rattle.std.proofs.Math.Option.{none};
-ghost use Rattle.pattern.specs.Sound.{sound_of};
 ghost use Rattle.pattern.specs.Cells.{cells_needed};
 ghost use Rattle.pattern.specs.Slots.{all};
 ghost use Rattle.record.specs.Record.{value_in_range};
@@ -15,46 +14,47 @@ ghost use Rattle.monitor.specs.Open.{marks};
 ghost use Rattle.monitor.specs.Feed.{cell_fine, feed_cause, table_after};
 ghost use Rattle.feed_moves.specs.Piece.{table_in, scores_in, lengths_in};
 
-use cells::{Layout, layout_of};
 use feed_ticks::{ground_of, kind_flags, repeat_last, tell_all, view_in};
 use flags::raise_starts;
 use monitor::State;
-use pattern::Pattern;
+use monitor::plan::Plan;
+use pattern::clocks::in_use;
 use table_tick::clear;
 
-// The needed cells of the second table are all marks. Only the contract speaks of the pattern.
-// The layout is made once a call and handed on; that the pattern is sound is no type, as in `cells::layout_of`.
-pub fn mark_all(p: Pattern, l: Layout, second: &mut [i64])
-    requires p_value { (sound_of p ≡ true) × (l ≡ layout p) }
-    requires p_in_bounds { cells_needed p ≤ length second.old }
+// The needed cells of the second table are all marks.
+pub fn mark_all(p: Plan, second: &mut [i64])
+    requires { cells_needed p ≤ length second.old }
     ensures { second.new ≡ marks p second.old }
 {
-    clear(second, 0, (l.high + 1) * l.row);
+    clear(second, 0, p.cells());
 }
 
 // What opening does when it is not refused.
-// Both tables, as a host in C lends them; the pattern is sound, and no type says so, as in `cells::layout_of`.
-pub fn open_both(p: Pattern, first: &mut [i64], second: &mut [i64])
-    requires p_value { sound_of p ≡ true }
+// Both tables, as a host in C lends them.
+pub fn open_both(p: Plan, first: &mut [i64], second: &mut [i64])
     requires p_in_bounds { cells_needed p ≤ length first.old }
     requires p_in_bounds_2 { cells_needed p ≤ length second.old }
     ensures first_after { first.new ≡ written p (open_table p) first.old }
     ensures second_after { second.new ≡ marks p second.old }
 {
-    let l = layout_of(p, p.high);
-    let starts = kind_flags(false, p);
-    table_tick::open(first, l, p.weighing, starts);
-    mark_all(p, l, second);
+    let Plan {
+        pattern,
+        layout,
+    } = p;
+    let starts = kind_flags(false, pattern);
+    table_tick::open(first, layout, pattern.weighing, starts);
+    mark_all(p, second);
 }
 
 // The flags of the table that an opening leaves.
-pub fn flag_opened(p: Pattern, flags: &mut [u32])
-    requires { (sound_of p ≡ true) × (4096 ≤ length flags.old) }
+pub fn flag_opened(p: Plan, flags: &mut [u32])
+    requires { 4096 ≤ length flags.old }
     ensures { (t : List ℤ) → cells_needed p ≤ length t
         → Flagged (layout p) (written p (open_table p) t) flags.new }
 {
-    let starts = kind_flags(false, p);
-    raise_starts(flags, starts, p.placecount as usize);
+    let Plan { pattern, .. } = p;
+    let starts = kind_flags(false, pattern);
+    raise_starts(flags, starts, usize::from(pattern.placecount));
 }
 
 // The piece's values, then what stood behind them.
@@ -69,10 +69,9 @@ fn last_after(last: [i32; 8], values: &[i32]) -> [i32; 8]
 
 // The ticks of a piece, each with its report. All its ticks but the first are alike, so that after high + 1 ticks the table
 // stands still: the rest of the reports is the last one again.
-// The slices come one by one, as a host in C lends them; the layout is made once a call and handed on.
+// The slices come one by one, as a host in C lends them.
 fn tell_piece(
-    p: Pattern,
-    l: Layout,
+    p: Plan,
     last: &[i32],
     duration: u32,
     values: &[i32],
@@ -81,7 +80,7 @@ fn tell_piece(
     scores: &mut [i64],
     lengths: &mut [u32],
 )
-    requires { (sound_of p ≡ true) × (l ≡ layout p) × (all value_in_range values.now ≡ true)
+    requires { (all value_in_range values.now ≡ true)
         × (cells_needed p ≤ length first.old) × (all cell_fine (take (cells_needed p) first.old) ≡ true)
         × (duration ≤ length scores.old) × (duration ≤ length lengths.old) × (Flagged (layout p) first.old flags.old) }
     ensures first_after { first.new
@@ -92,10 +91,11 @@ fn tell_piece(
         ≡ lengths_in p last.now values.now first.old duration lengths.old }
     ensures flagged { Flagged (layout p) first.new flags.new }
 {
-    let g = ground_of(p, l);
-    let v = view_in(p, last, values);
-    let u = view_in(p, values, values);
-    let still = p.high as u32 + 1;
+    let Plan { pattern, .. } = p;
+    let g = ground_of(p);
+    let v = view_in(pattern, last, values);
+    let u = view_in(pattern, values, values);
+    let still = u32::from(pattern.high) + 1;
     let moved = duration.min(still) as usize;
     tell_all(first, flags, scores, lengths, moved, &g, &v, &u);
     repeat_last(scores, lengths, moved, duration as usize);
@@ -105,8 +105,7 @@ fn tell_piece(
 // The slices come one by one, as there.
 pub fn feed_piece(
     s: State,
-    p: Pattern,
-    l: Layout,
+    p: Plan,
     first: &mut [i64],
     flags: &mut [u32],
     duration: u32,
@@ -116,7 +115,7 @@ pub fn feed_piece(
 ) -> State
     requires { (feed_cause p s first.old (length first.old) duration values.now
         (length scores.old) (length lengths.old) ≡ none)
-        × (l ≡ layout p) × (Flagged (layout p) first.old flags.old) }
+        × (Flagged (layout p) first.old flags.old) }
     ensures value { result ≡ piece_later p s duration values.now }
     ensures first_after { first.new
         ≡ written p (table_after p s first.old values.now duration) first.old }
@@ -127,8 +126,9 @@ pub fn feed_piece(
     ensures flagged { Flagged (layout p) first.new flags.new }
 {
     let last = s.last;
-    let used = &last[..p.channels as usize];
-    tell_piece(p, l, used, duration, values, first, flags, scores, lengths);
+    let Plan { pattern, .. } = p;
+    let used = in_use(&last, pattern.channels);
+    tell_piece(p, used, duration, values, first, flags, scores, lengths);
     let after = last_after(last, values);
     State {
         ticks: s.ticks + duration,

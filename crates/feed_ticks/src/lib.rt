@@ -2,18 +2,16 @@
 // and a last report told again.
 #![tactic(auto)]
 
-ghost use Rattle.std.specs.Prelude.{◌≡◌, true, not, ◌-◌, ◌≤◌, ◌<◌, length, get_or, set, pos};
-ghost use Rattle.pattern.specs.Sound.{sound_of};
+ghost use Rattle.std.specs.Prelude.{◌≡◌, not, ◌-◌, ◌≤◌, ◌<◌, length, get_or, set, pos};
 ghost use Rattle.record.specs.Joined.{agrees};
 ghost use Rattle.book.specs.View.{counts, gain_in};
 ghost use Rattle.flags.specs.Flags.{Flagged};
 ghost use Rattle.table.specs.Calls.{tick_in, told_in};
 ghost use Rattle.table.specs.Asks.{Gains, Whole};
-ghost use Rattle.monitor.specs.Cells.{layout};
 ghost use Rattle.feed_ticks.specs.Ticks.{kind_flag, kind_flags, view_in, view_at, common, common_of, score_of, length_of};
 ghost use Rattle.feed_ticks.specs.Ticks.{Telling, table_to, scores_to, lengths_to, repeated};
 
-use cells::Layout;
+use monitor::plan::Plan;
 use pattern::distance::place_worth;
 use pattern::{Kind, Pattern, Place, is_end, is_start};
 use record::samples::agree_in;
@@ -37,28 +35,30 @@ pub fn kind_flags(ending: bool, p: Pattern) -> [bool; 16]
     std::array::from_fn(|i| kind_flag(ending, p.places[i].kind))
 }
 
-// What never changes in a call that feeds the pattern: its layout is given.
-// The pattern is sound, and no type says so, as in `cells::layout_of`; the layout is made once a call.
-pub fn ground_of(p: Pattern, l: Layout) -> Ground
-    requires { (sound_of p ≡ true) × (l ≡ layout p) }
+// What never changes in a call that feeds the pattern.
+pub fn ground_of(p: Plan) -> Ground
     ensures { common result ≡ common_of p }
 {
-    let edges = p.edges;
-    let count = p.edgecount as usize;
+    let Plan {
+        pattern,
+        layout,
+    } = p;
+    let edges = pattern.edges;
+    let count = usize::from(pattern.edgecount);
     let links = links_of(edges, count);
     let steps = steps_of(edges, count);
-    let starts = kind_flags(false, p);
-    let ends = kind_flags(true, p);
+    let starts = kind_flags(false, pattern);
+    let ends = kind_flags(true, pattern);
     Ground {
-        layout: l,
-        weighing: p.weighing,
+        layout,
+        weighing: pattern.weighing,
         edges,
         count,
         links,
         steps,
         starts,
         ends,
-        low: p.low as usize,
+        low: usize::from(pattern.low),
     }
 }
 

@@ -27,6 +27,7 @@ use Rattle.walks.proofs.States as states
 use Rattle.book.specs.Automaton.{ceilings, held, same_clocks, held_automaton}
 use Rattle.book.proofs.Ceilings.{held-by_radices}
 use Rattle.book.proofs.Members.{all_member}
+use Rattle.cells.specs.declared.Layout.{Layout}
 use Rattle.cells.specs.Layout.{layout_of, Laid, cells_in}
 use Rattle.cells.specs.Index as cell
 use Rattle.cells.proofs.Layouts.{layout-laid, cells-in-layout, radix_some}
@@ -43,6 +44,10 @@ module _ (p : Pattern) (sound : sound_of p ≡ true) where
   pub cells_are : cells_in (layout p) ≡ cells_needed p
   unfolding cells_needed
   cells_are = cells-in-layout p p.high sound
+
+  -- a layout that is the pattern's has its parts in order and as many cells as needed
+  pub layout-made : (l : Layout) → l ≡ layout p → Laid l × (cells_in l ≡ cells_needed p)
+  layout-made l e = (subst Laid (sym e) laid, ap cells_in e ∙ cells_are)
 
   -- a state that the table has a cell for
   pub record Celled (s : State Clocks) : Type 0 where

@@ -1,6 +1,8 @@
 // The monitor's state. Opening and feeding are defined in specs/; the crate feed has the code.
 #![tactic(auto)]
 
+pub mod plan;
+
 ghost use Rattle.std.specs.Prelude.{◌≡◌};
 ghost use Rattle.monitor.specs.State.{no_ticks};
 

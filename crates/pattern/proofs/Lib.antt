@@ -1,3 +1,4 @@
+pub mod Judged
 pub mod Said
 pub mod SlotLaws
 pub mod BoundLaws

@@ -5,6 +5,7 @@
 pub mod clocks;
 pub mod distance;
 pub mod slots;
+pub mod sound_pattern;
 
 ghost use Rattle.std.specs.Prelude.{◌≡◌, true};
 ghost use Rattle.pattern.specs.Slots.{slots};
@@ -13,6 +14,7 @@ ghost use Rattle.pattern.specs.Kinds.{is_start, is_end};
 ghost use Rattle.pattern.specs.Refusal.{number_of};
 ghost use Rattle.pattern.specs.Sound.{place_sound, place_unused, edge_sound, edge_unused, header_in_range, sound_of};
 
+use self::sound_pattern::SoundPattern;
 use weighting::Weighing;
 
 // The four signs of tests and guards: `<`, `<=`, `>`, `>=`.
@@ -188,36 +190,31 @@ pub fn sound(p: Pattern) -> bool
 }
 
 // All four radices; a clock that the pattern lacks has radix 1.
-// That the pattern is sound is asked here and in `cells_needed`.
-fn radices(p: Pattern) -> u64
-    requires { sound_of p ≡ true }
+fn radices(p: SoundPattern) -> u64
     ensures { result ≡ radix_product p 4 }
 {
     let mut product: u64 = 1;
     for k in 0..4 {
-        product *= clocks::radix(p, k);
+        product *= clocks::radix(p.pattern, k);
     }
     product
 }
 
 // "(high + 1) × 2 × places × the product over clocks of (ceiling + 1)"
-fn cells_needed(p: Pattern) -> u64
-    requires { sound_of p ≡ true }
+fn cells_needed(p: SoundPattern) -> u64
     ensures { result ≡ cells_needed p }
 {
-    (u64::from(p.high) + 1) * 2 * u64::from(p.placecount) * radices(p)
+    (u64::from(p.pattern.high) + 1) * 2 * u64::from(p.pattern.placecount) * radices(p)
 }
 
 // The cells needed, or refusal 7.
+#[tactic(auto, unfolding(crate::specs::Cells::cells_of, crate::specs::Cells::cells_numbers), using(crate::proofs::Judged::accepted, crate::proofs::Judged::refused))]
 pub fn cells(p: Pattern) -> Result<u64, Refusal>
     ensures value { result ≡ cells_of p }
     ensures result_value { counted_as result ≡ cells_numbers p }
 {
-    if sound(p) {
-        Ok(cells_needed(p))
-    } else {
-        Err(Refusal::UnsoundPattern)
-    }
+    let p = SoundPattern::new(p)?;
+    Ok(cells_needed(p))
 }
 
 // May a run begin in a place of this kind?

@@ -19,28 +19,28 @@ overflow_mul-at c =
     let a = c.args in
     let k = (parts a.p.channels a.record.durations.now a.record.values.now c.requires.0.fits).agree in
     let w = sample-within a.piece (length a.record.durations.now) a.p.channels c.requires.2 in
-    rw c.from-channels.ensures (omega arith)
+    rw (c.from-channels.ensures, c.p.view_is) (omega arith)
 
 pub overflow_add-sample : goal.overflow_add-sample
 overflow_add-sample c =
     let a = c.args in
     let k = (parts a.p.channels a.record.durations.now a.record.values.now c.requires.0.fits).agree in
     let w = sample-within a.piece (length a.record.durations.now) a.p.channels c.requires.2 in
-    rw c.from-channels.ensures (omega arith)
+    rw (c.from-channels.ensures, c.p.view_is) (omega arith)
 
 pub offset_bounds-record-at : goal.offset_bounds-record-at
 offset_bounds-record-at c =
     let a = c.args in
     let k = (parts a.p.channels a.record.durations.now a.record.values.now c.requires.0.fits).agree in
     let w = sample-within a.piece (length a.record.durations.now) a.p.channels c.requires.2 in
-    rw c.from-channels.ensures (omega arith)
+    rw (c.from-channels.ensures, c.p.view_is) (omega arith)
 
 pub slice_bounds-sample-end : goal.slice_bounds-sample-end
 slice_bounds-sample-end c =
     let a = c.args in
     let k = (parts a.p.channels a.record.durations.now a.record.values.now c.requires.0.fits).agree in
     let w = sample-within a.piece (length a.record.durations.now) a.p.channels c.requires.2 in
-    rw c.from-channels.ensures (omega arith)
+    rw (c.from-channels.ensures, c.p.view_is) (omega arith)
 
 pub loop-left-init : goal.loop-left-init
 loop-left-init c =
@@ -62,7 +62,7 @@ feed_some-search-requires c =
       omega arith,
       room-on a.p st.requires.0.sound a.record.durations.now a.record.values.now st.requires.0.fits a.piece a.count l.left c.min-ticks.result st.requires.2 st.requires.3 l.invariant.0 (omega arith) e l.search
           l.first a.first.now st.requires.0.first_long l.invariant.1 l.invariant.2,
-      rw (c.from-channels.ensures, part-sample a.p.channels a.piece a.record.values.now) (accepted-on a.p st.requires.0.sound a.record.durations.now a.record.values.now st.requires.0.fits a.piece a.count l.left c.min-ticks.result st.requires.2 st.requires.3 l.invariant.0 (omega arith) e l.search
+      rw (c.from-channels.ensures, c.p.view_is, part-sample a.p.channels a.piece a.record.values.now) (accepted-on a.p st.requires.0.sound a.record.durations.now a.record.values.now st.requires.0.fits a.piece a.count l.left c.min-ticks.result st.requires.2 st.requires.3 l.invariant.0 (omega arith) e l.search
           l.first a.first.now st.requires.0.first_long l.invariant.1 l.invariant.2),
       l.invariant.3,
     )
@@ -84,7 +84,7 @@ loop-left-preserved c =
     let o = c.feed_some-search.ensures in
     let n = c.from-channels.result in
     let at = a.piece * n in
-    let sample : take (at + n - at) (drop at a.record.values.now) ≡ sample_at a.p.channels a.record.values.now a.piece = rw c.from-channels.ensures (part-sample a.p.channels a.piece a.record.values.now) in
+    let sample : take (at + n - at) (drop at a.record.values.now) ≡ sample_at a.p.channels a.record.values.now a.piece = rw (c.from-channels.ensures, c.p.view_is) (part-sample a.p.channels a.piece a.record.values.now) in
     let state-is = rw sample at o.state_value in
     let choice-is =
     subst

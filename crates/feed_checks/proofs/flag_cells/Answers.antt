@@ -1,11 +1,14 @@
 -- `flag_cells`: the layout is the pattern's.
+use mathlib.Core.Path.{ap}
+use Rattle.std.proofs.Common.{◌≤◌, ◌<◌}
+use Rattle.cells.specs.declared.Layout.{Layout}
 use Rattle.cells.specs.Layout.{layout_of}
-use Rattle.monitor.proofs.CellLaws.{laid, cells_are}
+use Rattle.monitor.proofs.CellLaws.{layout-made}
 use Rattle.feed_checks.proofs.flag_cells.Goals as goal
 
 pub cells_broken-requires : goal.cells_broken-requires
 unfolding layout_of
 cells_broken-requires c =
-    let k = c.requires in
-    let e = c.layout_of-l.ensures in
-    (rw e (laid c.args.p k.0), rw (e, cells_are c.args.p k.0) k.1, rw e k.2)
+    let i = c.p.inside in
+    let m = layout-made i.pattern c.p.invariant.0 i.layout c.p.invariant.1 in
+    (m.0, rw (m.1, c.p.view_is) c.requires.0, rw (c.p.invariant.1, c.p.view_is) c.requires.1)

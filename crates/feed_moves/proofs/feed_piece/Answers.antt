@@ -1,32 +1,18 @@
 use native.Mathlib.Omega.{arith}
-use mathlib.Core.Path.{◌≡◌, sym}
+use mathlib.Core.Path.{◌≡◌, refl, ap, ◌∙◌}
 use lib.ListN.{length}
-use lib.Seq.{length-take-le}
 use Rattle.pattern.proofs.SoundLaws.{parts}
+use Rattle.pattern.specs.Distance.{Sample}
+use Rattle.monitor.specs.State.{last_sample}
+use Rattle.feed_moves.specs.Piece.{scores_in, lengths_in}
 use Rattle.monitor.proofs.Accepted.{fed}
 use Rattle.feed_moves.proofs.feed_piece.Goals as goal
-
-pub slice_bounds-last-end : goal.slice_bounds-last-end
-slice_bounds-last-end c =
-    let a = c.args in
-    let e : length a.s.last ≡ 8 = omega arith in
-    let f = fed a.p a.s a.first.now (length a.first.now) a.duration a.values.now (length a.scores.now) (length a.lengths.now) c.requires.0 in
-    let few = (parts a.p f.sound).few_channels in
-    omega arith
-
-pub slice_bounds-used-end : goal.slice_bounds-used-end
-slice_bounds-used-end c =
-    let a = c.args in
-    let e : length a.s.last ≡ 8 = omega arith in
-    let f = fed a.p a.s a.first.now (length a.first.now) a.duration a.values.now (length a.scores.now) (length a.lengths.now) c.requires.0 in
-    let few = (parts a.p f.sound).few_channels in
-    sym (length-take-le a.p.channels a.s.last (omega arith))
 
 pub tell_piece-requires : goal.tell_piece-requires
 tell_piece-requires c =
     let a = c.args in
     let f = fed a.p a.s a.first.now (length a.first.now) a.duration a.values.now (length a.scores.now) (length a.lengths.now) c.requires.0 in
-    (f.sound, c.requires.1, f.piece.values, f.tables.first, f.cells, f.scores, f.lengths, c.requires.2)
+    (f.piece.values, f.tables.first, f.cells, f.scores, f.lengths, c.requires.1)
 
 pub last_after-after-requires : goal.last_after-after-requires
 last_after-after-requires c =
@@ -47,4 +33,11 @@ returns c =
     let a = c.args in
     let f = fed a.p a.s a.first.now (length a.first.now) a.duration a.values.now (length a.scores.now) (length a.lengths.now) c.requires.0 in
     let o = c.tell_piece.ensures in
-    record { value = rw (c.last_after-after.ensures, f.piece.count); first_after = o.first_after; scores_after = o.scores_after; lengths_after = o.lengths_after; flagged = o.flagged }
+    let e : c.in_use-used.result.now ≡ last_sample a.p a.s = rw (c.in_use-used.ensures, c.p.view_is) refl in
+    record {
+      value = rw (c.last_after-after.ensures, f.piece.count);
+      first_after = rw e at o.first_after;
+      scores_after = o.scores_after ∙ ap (λ (u : Sample). scores_in a.p u a.values.now a.first.now a.duration a.scores.now) e;
+      lengths_after = o.lengths_after ∙ ap (λ (u : Sample). lengths_in a.p u a.values.now a.first.now a.duration a.lengths.now) e;
+      flagged = o.flagged;
+    }

@@ -22,18 +22,22 @@ module _ (p : Pattern) (l : Layout) (sound : sound_of p ≡ true) (is : l ≡ la
 
 pub links_of-links-requires : goal.links_of-links-requires
 links_of-links-requires c =
-    edged_sourced (fits c.args.p c.args.l c.requires.0 c.requires.1) (edged c.args.p c.args.l c.requires.0 c.requires.1)
+    let i = c.p.inside in
+    let k = c.p.invariant in
+    rw (c.from-count.ensures) (edged_sourced (fits i.pattern i.layout k.0 k.1) (edged i.pattern i.layout k.0 k.1))
 
 pub steps_of-steps-requires : goal.steps_of-steps-requires
 steps_of-steps-requires c =
-    let e = edged c.args.p c.args.l c.requires.0 c.requires.1 in
-    (e.few, e.fits)
+    let e = edged c.p.inside.pattern c.p.inside.layout c.p.invariant.0 c.p.invariant.1 in
+    rw (c.from-count.ensures) (e.few, e.fits)
 
 pub invariant_of-result : goal.invariant_of-result
 invariant_of-result c =
+    let i = c.p.inside in
+    let k = c.p.invariant in
     record {
-      laid = fits c.args.p c.args.l c.requires.0 c.requires.1;
-      edged = edged c.args.p c.args.l c.requires.0 c.requires.1;
+      laid = fits i.pattern i.layout k.0 k.1;
+      edged = rw (c.from-count.ensures) (edged i.pattern i.layout k.0 k.1);
       linked = c.links_of-links.ensures;
       stepped = c.steps_of-steps.ensures;
     }

@@ -12,9 +12,8 @@ pub overflow_mul-product : goal.overflow_mul-product
 unfolding radix_product
 overflow_mul-product c =
     let l = c.loop-k in
-    let a = c.args in
-    let k = product_fits a.p (suc l.k) c.requires (omega arith) in
-    let e : l.product * c.radix-product.result ≡ radix_product a.p l.k * radix_of a.p l.k = rw (l.invariant, c.radix-product.ensures) in
+    let k = product_fits c.p.inside.pattern (suc l.k) c.p.invariant (omega arith) in
+    let e : l.product * c.radix-product.result ≡ radix_product c.p.inside.pattern l.k * radix_of c.p.inside.pattern l.k = rw (l.invariant, c.radix-product.ensures) in
     omega arith
 
 pub loop-k-preserved : goal.loop-k-preserved

@@ -3,4 +3,4 @@ use Rattle.pattern.specs.Cells.{radix_product}
 use Rattle.pattern.proofs.radices.Given as goal
 
 abbrev pub invariant-loop-k : goal.invariant-loop-k
-invariant-loop-k l = l.product ≡ radix_product l.p l.k
+invariant-loop-k l = l.product ≡ radix_product l.p-inside.pattern l.k
