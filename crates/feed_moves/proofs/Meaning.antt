@@ -30,8 +30,7 @@ use Rattle.walks.proofs.Cut.{only-cells}
 use Rattle.walks.proofs.Rows.{reports-only-cells}
 use Rattle.book.specs.Automaton.{same_clocks, held_automaton}
 use Rattle.book.specs.View.{gain_in, tick_view}
-use Rattle.cells.specs.declared.Layout.{Layout}
-use Rattle.cells.specs.Layout.{layout_of, cells_in, Laid}
+use Rattle.cells.specs.Layout.{layout_of, cells_in}
 use Rattle.cells.proofs.Blocks.{row_next}
 use Rattle.table.specs.declared.report.Report.{Report}
 use Rattle.table.specs.Moves.{cell_at, open_of, gain_at}

@@ -37,10 +37,7 @@ pub fn open_both(p: Plan, first: &mut [i64], second: &mut [i64])
     ensures first_after { first.new ≡ written p (open_table p) first.old }
     ensures second_after { second.new ≡ marks p second.old }
 {
-    let Plan {
-        pattern,
-        layout,
-    } = p;
+    let Plan { pattern, layout } = p;
     let starts = kind_flags(false, pattern);
     table_tick::open(first, layout, pattern.weighing, starts);
     mark_all(p, second);

@@ -39,10 +39,7 @@ pub fn kind_flags(ending: bool, p: Pattern) -> [bool; 16]
 pub fn ground_of(p: Plan) -> Ground
     ensures { common result ≡ common_of p }
 {
-    let Plan {
-        pattern,
-        layout,
-    } = p;
+    let Plan { pattern, layout } = p;
     let edges = pattern.edges;
     let count = usize::from(pattern.edgecount);
     let links = links_of(edges, count);

@@ -1,8 +1,7 @@
 // How `watch` starts: both texts are judged and the tables opened, and then what is due is printed step by step (watch_steps).
 #![tactic(auto)]
 
-ghost use Rattle.std.specs.Prelude.{◌≡◌, true, length};
-ghost use Rattle.pattern.specs.Sound.{sound_of};
+ghost use Rattle.std.specs.Prelude.{◌≡◌, length};
 ghost use Rattle.pattern_text.specs.Text.{accepted, read_of};
 ghost use Rattle.monitor.specs.State.{no_ticks};
 ghost use Rattle.monitor.specs.Open.{answer_of};
@@ -12,6 +11,7 @@ ghost use Rattle.watch_steps.specs.Steps.{Standing, start_with, start_watch, sta
 use best::Search;
 use feed::open;
 use monitor::State;
+use pattern::sound_pattern::SoundPattern;
 use pattern::{NO_PATTERN, Pattern, Refusal};
 use pattern_read::read;
 use record_read::check;
@@ -42,16 +42,22 @@ fn start_at(p: Pattern, opened: Result<State, Refusal>) -> Watch
 
 // The record's text judged, then the tables, which the opening may be refused for.
 // Both tables, as `feed::open` takes them; so `start`.
-fn opened(p: Pattern, text: &[u8], first: &mut [i64], second: &mut [i64]) -> Result<State, Refusal>
-    requires { (sound_of p ≡ true) × (length first.old ≡ 2048) × (length second.old ≡ 2048) }
+fn opened(
+    p: SoundPattern,
+    text: &[u8],
+    first: &mut [i64],
+    second: &mut [i64],
+) -> Result<State, Refusal>
+    requires { (length first.old ≡ 2048) × (length second.old ≡ 2048) }
     ensures value { result ≡ answer_of no_ticks (refusal_for (accepted p) text.now) }
     ensures first_after { first.new
         ≡ start_first (accepted p) text.now first.old second.old }
     ensures second_after { second.new
         ≡ start_second (accepted p) text.now first.old second.old }
 {
-    check(text, p.channels)?;
-    open(p, first, second)
+    let SoundPattern { pattern } = p;
+    check(text, pattern.channels)?;
+    open(pattern, first, second)
 }
 
 // The start: the pattern's text is judged first.
@@ -65,7 +71,7 @@ pub fn start(pattern: &[u8], text: &[u8], first: &mut [i64], second: &mut [i64])
     ensures standing { Standing text.now result first.new second.new }
 {
     match read(pattern) {
-        Ok(p) => start_at(p, opened(p, text, first, second)),
+        Ok(p) => start_at(p, opened(SoundPattern { pattern: p }, text, first, second)),
         Err(cause) => start_at(NO_PATTERN, Err(cause)),
     }
 }

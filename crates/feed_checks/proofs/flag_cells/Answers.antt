@@ -1,7 +1,4 @@
 -- `flag_cells`: the layout is the pattern's.
-use mathlib.Core.Path.{ap}
-use Rattle.std.proofs.Common.{◌≤◌, ◌<◌}
-use Rattle.cells.specs.declared.Layout.{Layout}
 use Rattle.cells.specs.Layout.{layout_of}
 use Rattle.monitor.proofs.CellLaws.{layout-made}
 use Rattle.feed_checks.proofs.flag_cells.Goals as goal

@@ -1,6 +1,4 @@
 -- `open_both`: the layout is that of the pattern.
-use native.Mathlib.Omega.{arith}
-use Rattle.feed_ticks.specs.Ticks.{kind_flags}
 use Rattle.monitor.proofs.CellLaws.{layout-made}
 use Rattle.feed_moves.proofs.Meaning.{open_written}
 use Rattle.feed_moves.proofs.open_both.Goals as goal

@@ -10,9 +10,8 @@ use Rattle.watch_start.proofs.start.Goals.{In-Ok, After-start_at}
 is : (c : In-Ok) → read_of c.args.pattern.now ≡ accepted c.in-Ok.p
 is c = read-accepted _ _ c.in-Ok.ensures.value
 
-pub opened-requires : goal.opened-requires
-opened-requires c =
-    ((sound_means_read c.in-Ok.p).1 (c.args.pattern.now, is (goal.at.opened-requires c).In-Ok), c.requires.0, c.requires.1)
+pub invariant_of-opened : goal.invariant_of-opened
+invariant_of-opened c = (sound_means_read c.in-Ok.p).1 (c.args.pattern.now, is (goal.at.invariant_of-opened c).In-Ok)
 
 started : (c : After-start_at) → c.start_at.result ≡ start_watch (accepted c.in-Ok.p) c.args.text.now
 started c = c.start_at.ensures ∙ ap (start_with c.in-Ok.p) c.opened.ensures.value ∙ opened_start c.in-Ok.p _
