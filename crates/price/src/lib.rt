@@ -97,9 +97,7 @@ fn score_from(
     ensures { result ≡ scored (outcome p lent.entry.durations.now lent.entry.values.now (Some s)
         (steps_of edges.now stays.now)) }
 {
-    let Some(end) = run(p, lent, s, edges, stays) else {
-        return Err(Refusal::NotARun);
-    };
+    let end = run(p, lent, s, edges, stays).ok_or(Refusal::NotARun)?;
     if !is_end(kind_at(p, end.place)) {
         return Err(Refusal::NotARun);
     }
@@ -126,9 +124,7 @@ fn score(
         durations: &durations[found.piece..],
         values: &values[at..],
     };
-    let Some(s) = start(p, edges[0], found.used, left) else {
-        return Err(Refusal::NotARun);
-    };
+    let s = start(p, edges[0], found.used, left).ok_or(Refusal::NotARun)?;
     score_from(p, lent, s, edges, stays)
 }
 

@@ -147,9 +147,7 @@ fn check_lines(text: &[u8], channels: u8) -> Result<(), Refusal>
         ticks: 0,
     };
     while r.unread() {
-        let Some((line, rest)) = read_line(r.left()) else {
-            return Err(Refusal::BrokenForm);
-        };
+        let (line, rest) = read_line(r.left()).ok_or(Refusal::BrokenForm)?;
         s = s.with(line, channels);
         r = r.moved(rest);
     }

@@ -5,6 +5,8 @@ use Prim.Native.Nat.{ℕ, ◌*◌, ◌≤◌, ◌<◌}
 use mathlib.Core.List.{List}
 use mathlib.Core.Bool.{true}
 use lib.IntN.{ℤ}
+use Rattle.std.proofs.lemmas.Result.{err_from_is_err_and}
+use Rattle.pattern.specs.declared.Refusal.TheVariants.{NotARun}
 use Rattle.record.specs.Record.{record_sound}
 use lib.ListN.{length}
 use Rattle.price_runs.specs.Stand.{outcome}
@@ -44,18 +46,21 @@ slice_bounds-lent-count-2 c = rw c.from.ensures (values-within c.args.p.channels
 pub slice_bounds-lent-start-2 : goal.slice_bounds-lent-start-2
 slice_bounds-lent-start-2 c = rw c.from.ensures (omega (arith, values-within c.args.p.channels c.args.durations.now c.args.values.now c.find-found.result.piece c.requires.kept c.find-found.ensures.inside))
 
-pub returns-in_default : goal.returns-in_default
+pub returns-in_err-s : goal.returns-in_err-s
 unfolding outcome
-returns-in_default c =
+returns-in_err-s c =
     let a = c.args in
     let f = c.find-found in
-    rw (← outcome-at-begin a.p a.durations.now a.values.now a.begin a.edges.now a.stays.now c.requires f.result f.ensures, ← c.ticks.ensures, ← c.start.ensures, c.in_default.is)
+    let p = err_from_is_err_and c.from_residual.result c.from_residual.ensures.1 in
+    let none = c.in_err-s.ensures.ok_part in
+    let cause : c.in_err-s.field-0.0 ≡ NotARun = cc (rw none at c.in_err-s.ensures.value) in
+    rw (p.1, p.2, cause, ← outcome-at-begin a.p a.durations.now a.values.now a.begin a.edges.now a.stays.now c.requires f.result f.ensures, ← c.ticks.ensures, ← c.start.ensures, none)
 
 pub score_from-requires : goal.score_from-requires
 score_from-requires c =
     let a = c.args in
     let f = c.find-found in
-    let placed = started _ _ _ (sym c.start.ensures ∙ c.in-Some.is) in
+    let placed = started _ _ _ (sym c.start.ensures ∙ c.in_ok-s.ensures.ok_part) in
     rw (c.from.ensures, rest_of f.result.piece a.durations.now, rest_of (f.result.piece * a.p.channels) a.values.now, placed, c.ticks.ensures)
     (held-at-begin a.p a.durations.now a.values.now a.begin a.edges.now a.stays.now c.requires f.result f.ensures)
 
@@ -63,5 +68,5 @@ pub returns : goal.returns
 returns c =
     let a = c.args in
     let f = c.find-found in
-    let ran = rw (c.from.ensures, rest_of f.result.piece a.durations.now, rest_of (f.result.piece * a.p.channels) a.values.now, ← c.in-Some.is, c.start.ensures, c.ticks.ensures) at c.score_from.ensures in
+    let ran = rw (c.from.ensures, rest_of f.result.piece a.durations.now, rest_of (f.result.piece * a.p.channels) a.values.now, ← c.in_ok-s.ensures.ok_part, c.start.ensures, c.ticks.ensures) at c.score_from.ensures in
     ran ∙ ap scored (outcome-at-begin a.p a.durations.now a.values.now a.begin a.edges.now a.stays.now c.requires f.result f.ensures)

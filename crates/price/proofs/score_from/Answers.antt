@@ -2,6 +2,8 @@
 use Rattle.std.proofs.Common.{◌≡◌, ◌∙◌, ap, [], arith, ◌^◌, ℕ, ℤ, List, Option, Some, Result, Ok}
 use Rattle.std.specs.Int.{w64}
 use mathlib.Core.List.{append-nil}
+use Rattle.std.proofs.lemmas.Result.{err_from_is_err_and}
+use Rattle.pattern.specs.declared.Refusal.TheVariants.{NotARun}
 use Rattle.integers.proofs.Casts.{read_back}
 use Rattle.integers.proofs.Ranges.{abs_fits_64}
 use Rattle.pattern.specs.declared.Pattern.{Pattern}
@@ -17,21 +19,27 @@ all_made : {p : Pattern} {ds : List ℕ} {vs : List ℤ} {s : Stand} {xs : List 
     → outcome p ds vs r [] ≡ outcome p ds vs (Some s) xs
 all_made {p} {ds} {vs} {s} {xs} ran = ran.same [] ∙ ap (outcome p ds vs (Some s)) (append-nil xs)
 
-pub returns-in_default : goal.returns-in_default
+pub returns-in_err-end : goal.returns-in_err-end
 unfolding outcome
-returns-in_default c = rw (← all_made c.run.ensures, c.in_default.is)
+returns-in_err-end c =
+    let p = err_from_is_err_and c.from_residual.result c.from_residual.ensures.1 in
+    let none = c.in_err-end.ensures.ok_part in
+    let cause : c.in_err-end.field-0.0 ≡ NotARun = cc (rw none at c.in_err-end.ensures.value) in
+    rw (p.1, p.2, cause, ← all_made c.run.ensures, none)
 
 pub returns-then-not-is_end : goal.returns-then-not-is_end
 unfolding outcome score_from
-returns-then-not-is_end c = rw (← all_made c.run.ensures, c.in-Some.is, ← c.kind_at.ensures, ← c.is_end.ensures, c.if-not-is_end.true)
+returns-then-not-is_end c =
+    rw (← all_made c.run.ensures, c.in_ok-end.ensures.ok_part, ← c.kind_at.ensures, ← c.is_end.ensures, c.if-not-is_end.true)
 
 pub returns : goal.returns
 unfolding outcome score_from
 returns c =
-    let held = rw c.in-Some.is at c.run.ensures.held in
+    let held = rw c.in_ok-end.ensures.ok_part at c.run.ensures.held in
     let size = held.size in
-    let worth = read_back w64 c.in-Some.end.worth (abs_fits_64 c.in-Some.end.worth (2 ^ 60) (omega arith) (omega arith)) in
+    let end = c.in_ok-end.end in
+    let worth = read_back w64 end.worth (abs_fits_64 end.worth (2 ^ 60) (omega arith) (omega arith)) in
     let a = c.args in
-    let due : ◌≡◌ {A = Result ℤ Refusal} (Ok c.in-Some.end.worth) (scored (outcome a.p a.lent.durations.now a.lent.values.now (Some a.s) (steps_of a.edges.now a.stays.now))) =
-    rw (← all_made c.run.ensures, c.in-Some.is, ← c.kind_at.ensures, ← c.is_end.ensures, c.if-not-is_end.false) in
+    let due : ◌≡◌ {A = Result ℤ Refusal} (Ok end.worth) (scored (outcome a.p a.lent.durations.now a.lent.values.now (Some a.s) (steps_of a.edges.now a.stays.now))) =
+    rw (← all_made c.run.ensures, c.in_ok-end.ensures.ok_part, ← c.kind_at.ensures, ← c.is_end.ensures, c.if-not-is_end.false) in
     ap (λ (z : ℤ). Ok z) worth ∙ due
