@@ -1,47 +1,39 @@
 -- A step takes the first edge and the first stay of those left.
-use Rattle.std.proofs.Common.{◌∙◌, List, ◌++◌, sym, ap, Some}
-use Rattle.std.specs.Iterator.Adapters.{zip_first, zip_second}
-use Rattle.std.specs.Slice.Iter.{iter_rest}
+use Rattle.std.proofs.Common.{◌≡◌, ◌∙◌, ℕ, ℤ, List, ◌∷◌, ◌++◌, sym, ap, Option, Some}
 use Rattle.std.proofs.lemmas.Slice.Zip.{Zip-more, either_empty_from_Zip}
+use Rattle.pattern.specs.declared.Pattern.{Pattern}
 use Rattle.record.specs.Run.{Step, steps_of}
-use Rattle.price_runs.specs.Stand.{outcome}
+use Rattle.price_runs.specs.declared.Stand.{Stand}
+use Rattle.price_runs.specs.Stand.{outcome, Stepped}
 use Rattle.price_runs.proofs.RunLaws.{steps-first, steps-none, no_outcome}
 use Rattle.price_runs.proofs.run.Goals as goal
+
+-- Once the first of the steps left is tried, what comes of the others is what came of all.
+goes-on : (p : Pattern) (ds : List ℕ) (vs : List ℤ) (s : Stand) (r : Option Stand) (e n : ℕ) → Stepped p ds vs s (record { edge = e; stay = n }) r
+    → (es ss es' ss' : List ℕ) → (es ≡ e ∷ es') × (ss ≡ n ∷ ss')
+    → (ys : List Step) → outcome p ds vs r (steps_of es' ss' ++ ys) ≡ outcome p ds vs (Some s) (steps_of es ss ++ ys)
+goes-on p ds vs s r e n tried es ss es' ss' more ys =
+    tried.same (steps_of es' ss' ++ ys) ∙ ap (λ (xs : List Step). outcome p ds vs (Some s) (xs ++ ys)) (sym (steps-first es ss es' ss' e n more.0 more.1))
 
 pub returns-in_err-at : goal.returns-in_err-at
 returns-in_err-at c =
     let a = c.args in
-    let ds = a.lent.durations.now in
-    let vs = a.lent.values.now in
-    let it = c.loop-edge.edge-iterator in
-    let left = steps_of (iter_rest (zip_first c.next.new.self)) (iter_rest (zip_second c.next.new.self)) in
-    let more = Zip-more it c.next.new.self c.next.result (c.in-Some.edge, c.in-Some.stay) c.in-Some.is c.next.ensures.steps in
-    let stopped = rw c.in_err-at.was at c.step.ensures.same in
+    let tried = rw c.in_err-at.was at c.step.ensures in
+    let more = Zip-more c.loop-edge.edge-iterator c.next.new.self c.next.result (c.in-Some.edge, c.in-Some.stay) c.in-Some.is c.next.ensures.steps in
     rw c.from_residual.ensures
     (record {
       held = tt;
       same = λ ys.
-          no_outcome a.p ds vs ys (left ++ ys)
-          ∙ stopped (left ++ ys)
-          ∙ ap (λ (xs : List Step). outcome a.p ds vs (Some c.loop-edge.at) (xs ++ ys)) (sym (steps-first _ _ _ _ _ _ more.0 more.1))
+          no_outcome a.p _ _ ys _
+          ∙ goes-on _ _ _ _ _ _ _ tried _ _ _ _ more ys
           ∙ c.loop-edge.invariant.same ys;
     })
 
 pub loop-edge-preserved : goal.loop-edge-preserved
 loop-edge-preserved c =
-    let a = c.args in
-    let ds = a.lent.durations.now in
-    let vs = a.lent.values.now in
-    let it = c.loop-edge.edge-iterator in
-    let left = steps_of (iter_rest (zip_first c.next.new.self)) (iter_rest (zip_second c.next.new.self)) in
-    let more = Zip-more it c.next.new.self c.next.result (c.in-Some.edge, c.in-Some.stay) c.in-Some.is c.next.ensures.steps in
-    record {
-      held = rw c.in_ok-at.was at c.step.ensures.held;
-      same = λ ys.
-          (rw c.in_ok-at.was at c.step.ensures.same) (left ++ ys)
-          ∙ ap (λ (xs : List Step). outcome a.p ds vs (Some c.loop-edge.at) (xs ++ ys)) (sym (steps-first _ _ _ _ _ _ more.0 more.1))
-          ∙ c.loop-edge.invariant.same ys;
-    }
+    let tried = rw c.in_ok-at.was at c.step.ensures in
+    let more = Zip-more c.loop-edge.edge-iterator c.next.new.self c.next.result (c.in-Some.edge, c.in-Some.stay) c.in-Some.is c.next.ensures.steps in
+    record { held = tried.held; same = λ ys. goes-on _ _ _ _ _ _ _ tried _ _ _ _ more ys ∙ c.loop-edge.invariant.same ys }
 
 pub returns : goal.returns
 returns c =
