@@ -87,7 +87,8 @@ impl<T: Part, const N: usize> Parts<T, N> {
 // As many parts as stand there.
 pub fn read_parts<T: Part, const N: usize>(text: &[u8], count: u8) -> (Parts<T, N>, &[u8])
     requires { N < 256 }
-    ensures { got result.0 result.1.now ≡ giving (gathered N T.unused (λ x. x) T.in_range (T.known count)) (read_many T.reads (length text.now) text.now) }
+    ensures { got result.0 result.1.now
+        ≡ giving (gathered N T.unused (λ x. x) T.in_range (T.known count)) (read_many T.reads (length text.now) text.now) }
 {
     let mut all = Parts::none();
     let mut rest = text;
