@@ -57,7 +57,3 @@ one_fails f t at size i low fits e = by (all f (take size (drop at t))) refl
 -- one cell alone
 pub one_cell : (f : ℤ → Bool) (t : List ℤ) (at : ℕ) → at < length t → all f (take 1 (drop at t)) ≡ f (get_or t at (pos 0))
 one_cell f t at h = let z : at + 0 ≡ at = omega arith in rw z at (cell-more f t at 0 (omega arith))
-
-pub not-and : (a b : Bool) → not (a && b) ≡ not a || not b
-not-and true b = refl
-not-and false b = refl
