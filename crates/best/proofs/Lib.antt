@@ -4,6 +4,7 @@ pub mod Choices
 pub mod Pieces
 pub mod Chunk
 pub mod Turn
+pub mod Reports
 pub mod Still
 pub mod Whole
 pub mod Left

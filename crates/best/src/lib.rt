@@ -71,9 +71,8 @@ pub fn choose_all(
         ≡ chosen_past p (chosen_in so_far) ticks scores.now lengths.now count }
 {
     let mut best = so_far;
-    for i in 0..count {
-        let k = i as usize;
-        best = choose(p, best, ticks + i + 1, scores[k], lengths[k]);
+    for ((tick, score), length) in (ticks..ticks + count).zip(scores).zip(lengths) {
+        best = choose(p, best, tick + 1, *score, *length);
     }
     best
 }

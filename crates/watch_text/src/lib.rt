@@ -53,16 +53,14 @@ fn put_report(out: &mut Writer, end: u32, score: i64, length: u32)
 }
 
 // The first `count` reports of a stretch that begins after `ticks` ticks. The slices hold more, as `best::choose_all` takes them.
-// By the place in both report slices, as `best::choose_all`.
 pub fn put_reports(out: &mut Writer, ticks: u32, count: u32, scores: &[i64], lengths: &[u32])
     requires { (count ≤ length scores.now) × (count ≤ length lengths.now) × (ticks + count ≤ 2147483647)
         × ((i : ℕ) → i < count → get_or lengths.now i 0 ≤ ticks + i + 1) }
     ensures put { Puts out.old out.new (rows_past ticks scores.now lengths.now count) }
     ensures count_bound { size (rows_past ticks scores.now lengths.now count) ≤ 64 * count }
 {
-    for i in 0..count {
-        let k = i as usize;
-        put_report(out, ticks + i + 1, scores[k], lengths[k]);
+    for ((tick, score), length) in (ticks..ticks + count).zip(scores).zip(lengths) {
+        put_report(out, tick + 1, *score, *length);
     }
 }
 

@@ -1,27 +1,45 @@
 -- Report by report.
-use native.Mathlib.Omega.{arith}
-use native.Mathlib.Numerals.{add-one}
-use borrow.Author.Rules.{rules}
-use mathlib.Core.Path.{◌≡◌}
-use lib.IntN.{pos}
-use lib.ListN.{get_or}
-use mir.Syntax.{w64}
-use mir.Val.{to_z, of_z}
+use Rattle.std.proofs.Common.{rules, ◌≡◌, refl, suc, ◌+◌, ◌-◌, ◌<◌, arith, to_z, of_z}
+use Rattle.std.specs.Int.{w64}
+use Rattle.std.specs.Iterator.Adapters.{zip_first}
+use Rattle.best.proofs.Reports.{one-more}
 use Rattle.text_put.proofs.PutLaws.{puts_none, puts_then}
 use Rattle.watch_text.specs.Shown.{rows_past}
 use Rattle.watch_text.proofs.Sizes.{past-short}
 use Rattle.watch_text.proofs.put_reports.Goals as goal
 
-pub loop-i-init : goal.loop-i-init
+pub loop-tick-init : goal.loop-tick-init
 unfolding rows_past
-loop-i-init c = (puts_none _, omega arith)
+loop-tick-init c =
+    let begun : c.args.ticks - c.args.ticks ≡ 0 = omega arith in
+    rw (c.into_iter-tick-iterator.ensures.into_iter_gives, c.zip-tick-items.ensures.first, c.zip.ensures.first, begun)
+    ((omega arith, omega arith, refl, c.zip.ensures.second.0, c.zip-tick-items.ensures.second.0), puts_none _, omega arith)
 
-pub loop-i-preserved : goal.loop-i-preserved
+pub put_report-requires : goal.put_report-requires
+put_report-requires c =
+    let l = c.loop-tick in
+    let s = rw c.in-Some.is at c.next.ensures.steps in
+    let at = (zip_first (zip_first l.tick-iterator)).start in
+    let begun = l.invariant.0.0 in
+    let end = l.invariant.0.2 in
+    let step = s.0.0.1 in
+    let more = one-more _ _ _ _ _ _ _ _ _ _ _ _ _ _ l.invariant.0 s.0.0.0 step.0 step.2 s.0.1 s.1 in
+    let few : at - c.args.ticks < c.args.count = omega (arith, step.0) in
+    omega (arith, step.1, more.2, c.requires.3 (at - c.args.ticks) few)
+
+pub loop-tick-preserved : goal.loop-tick-preserved
 unfolding rows_past
-loop-i-preserved c =
-    let l = c.loop-i in
+loop-tick-preserved c =
+    let l = c.loop-tick in
     let a = c.args in
-    let s = get_or a.scores.now l.i (pos 0) in
-    let back : to_z w64 (of_z w64 s) ≡ s = search rules in
-    let o = rw back at c.put_report.ensures in
-    (rw (add-one l.i) (puts_then l.invariant.0 o.put), rw (add-one l.i) (past-short a.ticks a.scores.now a.lengths.now l.i l.invariant.1 o.length_bound))
+    let s = rw c.in-Some.is at c.next.ensures.steps in
+    let n = a.ticks in
+    let at = (zip_first (zip_first l.tick-iterator)).start in
+    let begun = l.invariant.0.0 in
+    let step = s.0.0.1 in
+    let more = one-more _ _ _ _ _ _ _ _ _ _ _ _ _ _ l.invariant.0 s.0.0.0 step.0 step.2 s.0.1 s.1 in
+    let next : (zip_first (zip_first c.next.new.self)).start - n ≡ suc (at - n) = omega (arith, step.2) in
+    let tick : c.in-Some.tick + 1 ≡ n + (at - n) + 1 = omega (arith, step.1) in
+    let back : to_z w64 (of_z w64 c.in-Some.score.now) ≡ c.in-Some.score.now = search rules in
+    let put = rw (back, tick, more.1, more.2) at c.put_report.ensures in
+    (more.0, rw next (puts_then l.invariant.1 put.put), rw next (past-short n a.scores.now a.lengths.now (at - n) l.invariant.2 put.length_bound))
