@@ -19,6 +19,7 @@ use flags::raise_starts;
 use monitor::State;
 use monitor::plan::Plan;
 use pattern::clocks::in_use;
+use pattern::is_start;
 use table_tick::clear;
 
 // The needed cells of the second table are all marks.
@@ -38,7 +39,7 @@ pub fn open_both(p: Plan, first: &mut [i64], second: &mut [i64])
     ensures second_after { second.new ≡ marks p second.old }
 {
     let Plan { pattern, layout } = p;
-    let starts = kind_flags(false, pattern);
+    let starts = kind_flags(pattern, is_start);
     table_tick::open(first, layout, pattern.weighing, starts);
     mark_all(p, second);
 }
@@ -50,7 +51,7 @@ pub fn flag_opened(p: Plan, flags: &mut [u32])
         → Flagged (layout p) (written p (open_table p) t) flags.new }
 {
     let Plan { pattern, .. } = p;
-    let starts = kind_flags(false, pattern);
+    let starts = kind_flags(pattern, is_start);
     raise_starts(flags, starts, usize::from(pattern.placecount));
 }
 

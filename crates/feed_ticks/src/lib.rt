@@ -2,13 +2,13 @@
 // and a last report told again.
 #![tactic(auto)]
 
-ghost use Rattle.std.specs.Prelude.{◌≡◌, not, ◌-◌, ◌≤◌, ◌<◌, length, get_or, set, pos};
+ghost use Rattle.std.specs.Prelude.{◌≡◌, not, ◌-◌, ◌≤◌, ◌<◌, Bool, map, length, get_or, set, pos};
 ghost use Rattle.record.specs.Joined.{agrees};
 ghost use Rattle.book.specs.View.{counts, gain_in};
 ghost use Rattle.flags.specs.Flags.{Flagged};
 ghost use Rattle.table.specs.Calls.{tick_in, told_in};
 ghost use Rattle.table.specs.Asks.{Gains, Whole};
-ghost use Rattle.feed_ticks.specs.Ticks.{kind_flag, kind_flags, view_in, view_at, common, common_of, score_of, length_of};
+ghost use Rattle.feed_ticks.specs.Ticks.{view_in, view_at, common, common_of, score_of, length_of};
 ghost use Rattle.feed_ticks.specs.Ticks.{Telling, table_to, scores_to, lengths_to, repeated};
 
 use monitor::plan::Plan;
@@ -21,18 +21,13 @@ use table::{View, links_of};
 use table_tick::tick;
 use weighting::{Weighing, unit};
 
-// The flag is the definition's, which theorems speak of.
-fn kind_flag(ending: bool, k: Kind) -> bool
-    ensures { result ≡ kind_flag ending k }
+// For each place what the test says of its kind.
+pub fn kind_flags<F: Fn(Kind) -> bool>(p: Pattern, test: F) -> [bool; 16]
+    requires { F.IsAlwaysCallable test }
+    ensures { (f : Kind → Bool) → ((k : Kind) (r : Bool) → F.post test k r → r ≡ f k)
+        → result ≡ map (λ l. f l.kind) p.places }
 {
-    if ending { is_end(k) } else { is_start(k) }
-}
-
-// For each place whether a run may end there, or else begin there.
-pub fn kind_flags(ending: bool, p: Pattern) -> [bool; 16]
-    ensures { result ≡ kind_flags ending p }
-{
-    std::array::from_fn(|i| kind_flag(ending, p.places[i].kind))
+    std::array::from_fn(|i| test(p.places[i].kind))
 }
 
 // What never changes in a call that feeds the pattern.
@@ -44,8 +39,8 @@ pub fn ground_of(p: Plan) -> Ground
     let count = usize::from(pattern.edgecount);
     let links = links_of(edges, count);
     let steps = steps_of(edges, count);
-    let starts = kind_flags(false, pattern);
-    let ends = kind_flags(true, pattern);
+    let starts = kind_flags(pattern, is_start);
+    let ends = kind_flags(pattern, is_end);
     Ground {
         layout,
         weighing: pattern.weighing,

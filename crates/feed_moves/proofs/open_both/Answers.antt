@@ -1,4 +1,5 @@
 -- `open_both`: the layout is that of the pattern.
+use Rattle.pattern.specs.Kinds.{is_start}
 use Rattle.monitor.proofs.CellLaws.{layout-made}
 use Rattle.feed_moves.proofs.Meaning.{open_written}
 use Rattle.feed_moves.proofs.open_both.Goals as goal
@@ -15,7 +16,7 @@ returns c =
     let a = c.args in
     record {
       first_after =
-          rw (c.«open».ensures, c.kind_flags-starts.ensures, c.p.invariant.1, ← c.p.view_is)
+          rw (c.«open».ensures, c.kind_flags-starts.ensures is_start (λ k r h. h.1), c.p.invariant.1, ← c.p.view_is)
           (open_written i.pattern c.p.invariant.0 a.first.now (rw c.p.view_is c.requires.p_in_bounds));
       second_after = c.mark_all.ensures;
     }

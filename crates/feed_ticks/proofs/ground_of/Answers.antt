@@ -1,9 +1,9 @@
 -- `ground_of`: what a sound pattern's layout, edges, links and steps are known for.
-use mathlib.Core.Path.{◌≡◌, sym, subst}
+use mathlib.Core.Path.{◌≡◌, refl, sym, subst}
 use Rattle.pattern.specs.declared.Pattern.{Pattern}
+use Rattle.pattern.specs.Kinds.{is_start, is_end}
 use Rattle.pattern.specs.Sound.{sound_of}
 use mathlib.Core.Bool.{true}
-use Rattle.std.proofs.Common.{rules}
 use Rattle.cells.specs.declared.Layout.{Layout}
 use Rattle.cells.specs.Layout.{Laid}
 use Rattle.table.specs.Edges.{Edged}
@@ -42,6 +42,8 @@ invariant_of-result c =
       stepped = c.steps_of-steps.ensures;
     }
 
--- The check finds this alone; it stands here so that an edit of what is common is refused at it.
 pub returns : goal.returns
-returns c = search rules
+returns c =
+    let starts = c.kind_flags-starts.ensures is_start (λ k r h. h.1) in
+    let ends = c.kind_flags-ends.ensures is_end (λ k r h. h.1) in
+    rw (starts, ends, c.from-count.ensures, c.from.ensures, c.p.invariant.1, ← c.p.view_is) refl
