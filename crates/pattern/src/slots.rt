@@ -12,7 +12,8 @@ use super::{Edge, Guard, Kind, NO_GUARD, NO_TEST, Place, Sign, Test};
 // Whether each element passes the test.
 fn all<T, F: Fn(&T) -> bool>(xs: &[T], test: F) -> bool
     requires { F.IsAlwaysCallable test }
-    ensures { (p : T → Bool) → ((x : T) (r : Bool) → FnReturnsAt F.Fn test x r → r ≡ p x) → result ≡ list_all p xs.now }
+    ensures { (p : T → Bool) → ((x : T) (r : Bool) → FnReturnsAt F.Fn test x r → r ≡ p x)
+        → result ≡ list_all p xs.now }
 {
     xs.iter().all(test)
 }
