@@ -1,5 +1,5 @@
 -- The reports that a loop over a stretch's ticks has still to look at.
-use Rattle.std.proofs.Common.{◌≡◌, ◌∙◌, sym, ap, ℕ, suc, ◌+◌, ◌-◌, ◌≤◌, ◌<◌, List, ◌∷◌, drop, get_or, ℤ, pos, arith}
+use Rattle.std.proofs.Common.{◌≡◌, ◌∙◌, sym, ap, ℕ, ◌+◌, ◌-◌, ◌≤◌, ◌<◌, List, ◌∷◌, drop, get_or, ℤ, pos, arith}
 use Rattle.std.proofs.lemmas.List.{get_or-drop, drop-drop}
 
 -- Those of the ticks before `at` are behind.

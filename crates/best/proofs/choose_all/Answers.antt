@@ -2,7 +2,7 @@
 use Rattle.std.proofs.Common.{rules, ◌≡◌, refl, suc, ◌+◌, ◌-◌, arith, to_z, of_z}
 use Rattle.std.specs.Int.{w64}
 use Rattle.std.specs.Iterator.Adapters.{zip_first}
-use Rattle.best.specs.Search.{chosen_in, chosen_past}
+use Rattle.best.specs.Search.{chosen_past}
 use Rattle.best.proofs.Reports.{one-more}
 use Rattle.best.proofs.choose_all.Goals as goal
 
