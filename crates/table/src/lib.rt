@@ -61,7 +61,8 @@ pub struct Links {
     pub nexts: [u8; 32],
 }
 
-// With a count, as the definition has it.
+// With a count, as the definition has it. It narrows by `as`: both numbers are at most 32, and `try_from` would need an answer
+// for a refusal that cannot come.
 pub fn links_of(edges: [Edge; 32], count: usize) -> Links
     requires { Sourced edges count }
     ensures { Linked edges count result }
@@ -70,7 +71,7 @@ pub fn links_of(edges: [Edge; 32], count: usize) -> Links
     let mut firsts = [none; 16];
     let mut nexts = [none; 32];
     for i in (0..count).rev() {
-        let place = edges[i].from as usize;
+        let place = usize::from(edges[i].from);
         nexts[i] = firsts[place];
         firsts[place] = i as u8;
     }

@@ -49,10 +49,10 @@ fn leaves(
     ensures grown { Grown g.now.layout table.new flags.old flags.new }
 {
     let mut best = r;
-    let mut i = g.links.firsts[p] as usize;
+    let mut i = usize::from(g.links.firsts[p]);
     while i < g.count {
         best = leave(table, flags, g, tells, n, i, sent, best);
-        i = g.links.nexts[i] as usize;
+        i = usize::from(g.links.nexts[i]);
     }
     best
 }

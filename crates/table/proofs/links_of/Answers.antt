@@ -10,7 +10,7 @@ loop-i-init c = links_none c.args.edges c.args.count
 pub loop-i-preserved : goal.loop-i-preserved
 loop-i-preserved c =
     let l = c.loop-i in
-    links_more c.args.edges c.args.count l.i _ l.firsts l.nexts c.requires c.loop-i-test.true l.auto.i refl l.invariant
+    links_more c.args.edges c.args.count l.i _ l.firsts l.nexts c.requires c.loop-i-test.true l.auto.i c.from-place.ensures l.invariant
 
 pub returns : goal.returns
 returns c =

@@ -2,7 +2,6 @@
 use Prim.Native.Nat.{◌+◌, ◌*◌}
 use native.Mathlib.Omega.{arith}
 use mathlib.Core.Path.{refl, ◌∙◌}
-use lib.ListN.{get_or}
 use Rattle.steps.specs.Steps.{edge_in}
 use Rattle.table.specs.Edges.{Hop}
 use Rattle.table.proofs.Steps.{hop_more, hop_all, rest_end, leave_is, leave_no}
@@ -13,8 +12,9 @@ use Rattle.table_blocks.proofs.leaves.Goals as goal
 
 pub loop-i-init : goal.loop-i-init
 loop-i-init c =
-    let few = c.args.g.now.laid.few in
-    let hop = c.args.g.now.linked.firsts c.args.p (let h = c.requires.1 in omega arith) in
+    let g = c.args.g.now in
+    let few = g.laid.few in
+    let hop : Hop g.edges g.count c.args.p 0 c.from-i.result = rw c.from-i.ensures (g.linked.firsts c.args.p (let h = c.requires.1 in omega arith)) in
     record { low = hop.below; source = hop.lands; kept = kept_refl _ _; moves = refl; tells = refl; grown = grown-refl c.requires.2 }
 
 pub loop-i-preserved : goal.loop-i-preserved
@@ -24,7 +24,7 @@ loop-i-preserved c =
     let m = c.loop-i in
     let s = a.sent in
     let from = m.invariant.source (omega arith) in
-    let hop : Hop g.edges g.count a.p (m.i + 1) (get_or g.links.nexts m.i 0) = rw from at (g.linked.nexts m.i (omega arith)) in
+    let hop : Hop g.edges g.count a.p (m.i + 1) c.from-i-in-loop-i.result = rw c.from-i-in-loop-i.ensures (rw from at (g.linked.nexts m.i (omega arith))) in
     let u = c.leave-best.new.table in
     let e = c.leave-best.ensures.table_after in
     let f = c.leave-best.ensures.value in
@@ -45,7 +45,7 @@ returns c =
     let m = c.loop-i in
     let s = a.sent in
     let few = g.laid.few in
-    let hop = g.linked.firsts a.p (let h = c.requires.1 in omega arith) in
+    let hop : Hop g.edges g.count a.p 0 c.from-i.result = rw c.from-i.ensures (g.linked.firsts a.p (let h = c.requires.1 in omega arith)) in
     let t = rest_end _ m.i _ m.table _ (omega arith) m.invariant.moves in
     let r = rest_end _ m.i _ m.best _ (omega arith) m.invariant.tells in
     record {
