@@ -12,6 +12,7 @@ pub struct Report {
 }
 
 // A worth v of length n, no longer than what r was made from, if r is of a run. What is as good and no longer takes its place.
+#[tactic(auto, unfolding(crate::specs::Reports::noted))]
 fn note(w: Weighing, r: Option<Report>, v: i64, n: usize) -> Option<Report>
     ensures { result ≡ noted w r v n }
 {
