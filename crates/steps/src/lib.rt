@@ -54,7 +54,7 @@ fn narrow_on(s: Span, g: Guard, clock: u8) -> Span
     ensures { result ≡ narrowed_on clock g s }
 {
     if g.clock == clock {
-        narrow(s, g.sign, g.bound as usize)
+        narrow(s, g.sign, usize::from(g.bound))
     } else {
         s
     }
@@ -75,16 +75,15 @@ fn span_of(e: Edge, clock: u8) -> Span
 }
 
 // The step of an edge.
-// Clock by clock, as the contracts name them.
 fn step_of(e: Edge) -> Step
     ensures { result ≡ step_of e }
 {
-    let spans = [span_of(e, 0), span_of(e, 1), span_of(e, 2), span_of(e, 3)];
+    let spans = [0, 1, 2, 3].map(|clock| span_of(e, clock));
     let resets = e.resets;
     Step {
         spans,
         resets,
-        to: e.to as usize,
+        to: usize::from(e.to),
     }
 }
 
