@@ -1,12 +1,12 @@
 // The moves of all occupied cells of a block (one length, stage and place) of a monitor's table in a tick.
 #![tactic(auto)]
 
-ghost use Rattle.std.specs.Prelude.{◌≡◌, true, false, ◌+◌, ◌≤◌, ◌<◌, length};
+ghost use Rattle.std.specs.Prelude.{◌≡◌, true, ◌+◌, ◌≤◌, ◌<◌, length};
 ghost use Rattle.std.specs.Int.Signed.{lt_z};
 ghost use Rattle.weighting.specs.Cell.{mark};
 ghost use Rattle.flags.specs.Flags.{flag_at, Flagged, IsRaised, Grown};
 ghost use Rattle.table.specs.Calls.{leaves_in, told_leaves_in, visits_in, told_visits_in, pass_in, told_pass_in};
-ghost use Rattle.table.specs.Asks.{Moving, Passing, Occupied, Empty};
+ghost use Rattle.table.specs.Asks.{Moving, Passing, Occupied};
 
 use cells::clocks_to;
 use flags::raise;
@@ -90,23 +90,21 @@ fn visits(
     best
 }
 
-// The block, unless its place cannot be stayed in or, as its flag says, it holds only marks: the fact about the flag is asked here.
+// The block, unless its place cannot be stayed in.
 pub fn pass(
     table: &mut [i64],
     flags: &mut [u32],
     g: &Ground,
     tells: &[bool; 16],
     b: Block,
-    held: bool,
     r: Option<Report>,
 ) -> Option<Report>
-    requires { (Passing table.old g.now.layout b) × (Flagged g.now.layout table.old flags.old)
-        × (held ≡ false → Empty table.old b.start g.now.layout.block) }
+    requires { (Passing table.old g.now.layout b) × (Flagged g.now.layout table.old flags.old) }
     ensures value { result ≡ told_pass_in g.now tells.now b table.old r }
     ensures table_after { table.new ≡ pass_in g.now b table.old }
     ensures grown { Grown g.now.layout table.new flags.old flags.new }
 {
-    if MARK < b.gain && held {
+    if MARK < b.gain {
         let first = occupied(table, b.start, 0, g.layout.block);
         raise(flags, b.len + 1, g.layout.places + b.place);
         return visits(table, flags, g, tells, b, first, r);

@@ -2,12 +2,12 @@
 // A tick moves length n to n + 1, so row n + 1 is cleared and row n offered into it, from the longest to the shortest.
 #![tactic(auto)]
 
-ghost use Rattle.std.specs.Prelude.{◌≡◌, false, ◌+◌, ◌*◌, ◌≤◌, ◌<◌, length};
+ghost use Rattle.std.specs.Prelude.{◌≡◌, ◌+◌, ◌*◌, ◌≤◌, ◌<◌, length};
 ghost use Rattle.cells.specs.Layout.{cells_in};
 ghost use Rattle.table.specs.Moves.{marked, cleared, gain_in, starts_of, begun, open_of};
 ghost use Rattle.table.specs.Reports.{tells_at};
 ghost use Rattle.table.specs.Calls.{place_in, told_place_in, places_in, told_places_in, row_in, told_row_in, rows_in, tick_in, told_in};
-ghost use Rattle.table.specs.Asks.{Gains, Whole, Filed, Placing, Ready, Rows, Empty};
+ghost use Rattle.table.specs.Asks.{Gains, Whole, Filed, Placing, Ready, Rows};
 ghost use Rattle.flags.specs.Flags.{RowFlagged, Flagged, Grown};
 
 use cells::{Layout, block_at};
@@ -19,7 +19,7 @@ use table_blocks::pass;
 use weighting::{MARK, Weighing, unit};
 
 // The mark in the cells from `from` to `to`.
-// By offsets, as the definition `cleared` has them; so `wipe_block`.
+// By offsets, as the definition `cleared` has them.
 pub fn clear(table: &mut [i64], from: usize, to: usize)
     requires { (from ≤ to) × (to ≤ length table.old) }
     ensures { table.new ≡ cleared table.old from to }
@@ -34,8 +34,8 @@ fn gain_in(entered: i64, staying: i64, stage: usize) -> i64
     if stage == 0 { entered } else { staying }
 }
 
-// The cells of length n in place p, of both stages. One call of `pass`, so that the compiler puts it into the loop. The report so far, the
-// length and where a run may end change from call to call, so they are no part of what never changes.
+// The cells of length n in place p, of both stages: a block without a flag holds only marks. One call of `pass`, so that the compiler puts it
+// into the loop. The report so far, the length and where a run may end change from call to call, so they are no part of what never changes.
 fn place(
     table: &mut [i64],
     flags: &mut [u32],
@@ -60,8 +60,9 @@ fn place(
             start: block_at(g.layout, n, stage, p),
             gain: gain_in(entered, staying, stage),
         };
-        let held = has_bit(flags[n], stage * g.layout.places + p);
-        best = pass(table, flags, g, tells, b, held, best);
+        if has_bit(flags[n], stage * g.layout.places + p) {
+            best = pass(table, flags, g, tells, b, best);
+        }
     }
     best
 }
@@ -107,17 +108,8 @@ fn tells_at(ends: [bool; 16], low: usize, ticks: usize) -> [bool; 16]
     if ticks < low { [false; 16] } else { ends }
 }
 
-// The mark in all cells of a block, unless it holds only marks, as its flag says: the fact about the flag is asked here, once.
-fn wipe_block(table: &mut [i64], at: usize, size: usize, held: bool)
-    requires { (at + size ≤ length table.old) × (held ≡ false → Empty table.old at size) }
-    ensures { table.new ≡ marked table.old at size }
-{
-    if held {
-        clear(table, at, at + size);
-    }
-}
-
-// The mark in all cells of row n, whose flags are given. By the row's number, as the definitions of its cells and flags are; so below.
+// The mark in all cells of row n, whose flags are given: a block without one holds only marks. By the row's number, as the
+// definitions of its cells and flags are; so below.
 fn wipe_blocks(table: &mut [i64], g: &Ground, n: usize, flags: u32)
     requires { (cells_in g.now.layout ≤ length table.old) × (n ≤ g.now.layout.high)
         × (RowFlagged g.now.layout table.old flags n) }
@@ -126,7 +118,10 @@ fn wipe_blocks(table: &mut [i64], g: &Ground, n: usize, flags: u32)
     let size = g.layout.block;
     let from = n * g.layout.row;
     for i in 0..2 * g.layout.places {
-        wipe_block(table, from + i * size, size, has_bit(flags, i));
+        if has_bit(flags, i) {
+            let at = from + i * size;
+            clear(table, at, at + size);
+        }
     }
 }
 
@@ -183,7 +178,7 @@ fn rows(table: &mut [i64], flags: &mut [u32], g: &Ground, v: &View) -> Option<Re
 }
 
 // The same worth where each start place's cells begin, of which there are `size`.
-// With a count, as the definition has it.
+// With a count, as the definition has it (`starts_of`).
 fn seeds(table: &mut [i64], starts: [bool; 16], count: usize, size: usize, worth: i64)
     requires { (count ≤ 16) × (0 < size) × (count * size ≤ length table.old) }
     ensures { table.new ≡ starts_of size worth starts count table.old }

@@ -1,9 +1,9 @@
--- `pass` visits a block, unless the gain is the mark or all its cells are. Before it the flag is raised of the block that its
+-- `pass` visits a block, unless the gain is the mark. Before it the flag is raised of the block that its
 -- worths stay in.
 use borrow.Author.Rules.{rules}
 use Prim.Native.Nat.{◌+◌, ◌<◌}
 use native.Mathlib.Omega.{arith}
-use mathlib.Core.Path.{◌≡◌, sym}
+use mathlib.Core.Path.{◌≡◌}
 use lib.ListN.{length}
 use mir.Syntax.{w64}
 use mir.Val.{to_z, of_z}
@@ -12,9 +12,7 @@ use Rattle.flags.specs.Flags.{flag_at}
 use Rattle.flags.proofs.Flags.{raised_is, grown-refl, grown-trans, raised-grown}
 use Rattle.table.proofs.Steps.{pass_is, pass_no}
 use Rattle.table.proofs.Told.{told_pass_lem, told_pass_no}
-use Rattle.table.proofs.Empty.{empty_pass, empty-told}
 use Rattle.table_blocks.proofs.pass.Goals as goal
-use Rattle.table_blocks.proofs.pass.Goals.{else-b-gt-MARK-via-then-b-gt-MARK+else-held, else-b-gt-MARK-via-else-b-gt-MARK}
 
 pub visits-requires : goal.visits-requires
 visits-requires c =
@@ -34,8 +32,8 @@ visits-requires c =
       rw (e, i) (raised_is a.flags.now (b.len + 1) (flag_at g.layout 1 b.place) inside),
     )
 
-pub returns-then-held : goal.returns-then-held
-returns-then-held c =
+pub returns-then-b-gt-MARK : goal.returns-then-b-gt-MARK
+returns-then-b-gt-MARK c =
     let a = c.args in
     let g = a.g.now in
     let b = a.b in
@@ -58,20 +56,9 @@ returns c =
     let g = a.g.now in
     let b = a.b in
     let q : to_z w64 (of_z w64 b.gain) ≡ b.gain = to_z-of_z {w = w64} {z = b.gain} (record { sfits = search rules }) in
-    elim c.else-b-gt-MARK.branch [
-      -- a block of marks alone
-      | else-b-gt-MARK-via-then-b-gt-MARK+else-held w ↦
-          let e = c.requires.2 w.if-held.false in
-          record {
-            value = sym (empty-told g.layout g.weighing g.edges g.count a.table.now b.gain b.len b.place b.start e a.tells.now a.r);
-            table_after = sym (empty_pass g.layout g.weighing g.edges g.count a.table.now b.gain b.len b.place b.start e);
-            grown = grown-refl c.requires.1;
-          }
-      | else-b-gt-MARK-via-else-b-gt-MARK w ↦
-          let m = rw q at w.if-b-gt-MARK.false in
-          record {
-            value = told_pass_no g.layout g.weighing g.edges g.count a.tells.now b.gain b.len b.place b.start a.table.now a.r m;
-            table_after = pass_no g.layout g.weighing g.edges g.count b.gain b.len b.place b.start a.table.now m;
-            grown = grown-refl c.requires.1;
-          }
-    ]
+    let m = rw q at c.if-b-gt-MARK.false in
+    record {
+      value = told_pass_no g.layout g.weighing g.edges g.count a.tells.now b.gain b.len b.place b.start a.table.now a.r m;
+      table_after = pass_no g.layout g.weighing g.edges g.count b.gain b.len b.place b.start a.table.now m;
+      grown = grown-refl c.requires.1;
+    }

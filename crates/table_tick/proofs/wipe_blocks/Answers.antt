@@ -1,14 +1,17 @@
 -- `wipe_blocks` goes block by block; those to come are as they were.
-use Prim.Native.Nat.{ℕ, ◌+◌, ◌*◌, ◌≤◌}
+use Prim.Native.Nat.{ℕ, ◌+◌, ◌-◌, ◌*◌, ◌≤◌}
 use native.Mathlib.Omega.{arith}
 use native.Mathlib.Nat.{zero-mul}
 use mathlib.Core.Path.{◌≡◌, refl, sym, ap, ◌∙◌}
+use mathlib.Core.Bool.{false}
 use Rattle.cells.specs.declared.Layout.{Layout}
 use Rattle.cells.specs.Layout.{cells_in, Laid}
 use Rattle.cells.proofs.Blocks.{row_next, row_inside, blocks_inside}
 use Rattle.flags.proofs.Bits.{bit_unset}
 use Rattle.table.specs.Moves.{marked}
-use Rattle.table.proofs.Flags.{marked_append, block-empty}
+use Rattle.table.specs.Asks.{Empty}
+use Rattle.table.proofs.Flags.{marked_append, marked-none, block-empty}
+use Rattle.table_tick.proofs.wipe_blocks.Goals.{then-has_bit, else-has_bit}
 use Rattle.table_tick.proofs.wipe_blocks.Goals as goal
 
 -- the blocks of a row lie in the table
@@ -28,15 +31,8 @@ loop-i-init c =
     let z : 0 * c.args.g.now.layout.block ≡ 0 = zero-mul c.args.g.now.layout.block in
     (refl, rw z refl)
 
-pub overflow_add-from : goal.overflow_add-from
-overflow_add-from c =
-    let l = c.args.g.now.layout in
-    let h = ends l c.args.n c.loop-i.i c.args.g.now.laid c.requires.1 (omega arith) in
-    let s = c.args.g.now.laid.small in
-    omega arith
-
-pub wipe_block-requires : goal.wipe_block-requires
-wipe_block-requires c =
+pub clear-requires : goal.clear-requires
+clear-requires c =
     let a = c.args in
     let g = a.g.now in
     let l = c.loop-i in
@@ -44,15 +40,24 @@ wipe_block-requires c =
     let next = row_next l.i g.layout.block in
     let long = c.requires.0 in
     let same = l.invariant.0 in
-    (omega arith, λ none k low. rw l.invariant.1 (block-empty g.layout g.laid a.table.now a.flags a.n l.i k c.requires.2 (omega arith) (bit_unset _ _ (rw c.has_bit.ensures at none)) low))
+    (omega arith, omega arith)
 
 pub loop-i-preserved : goal.loop-i-preserved
 loop-i-preserved c =
     let a = c.args in
     let g = a.g.now in
     let l = c.loop-i in
-    let e = rw l.invariant.1 at c.wipe_block.ensures in
-    (c.wipe_block.auto.table ∙ l.invariant.0, e ∙ marked_append a.table.now (a.n * g.layout.row) (l.i * g.layout.block) g.layout.block ∙ ap (marked a.table.now (a.n * g.layout.row)) (sym (row_next l.i g.layout.block)))
+    let j = c.if-has_bit in
+    let at = a.n * g.layout.row + l.i * g.layout.block in
+    let size : at + g.layout.block - at ≡ g.layout.block = omega arith in
+    let none : c.has_bit.result ≡ false → Empty l.table at g.layout.block =
+    λ no k low. rw l.invariant.1 (block-empty g.layout g.laid a.table.now a.flags a.n l.i k c.requires.2 (omega arith) (bit_unset _ _ (rw c.has_bit.ensures at no)) low) in
+    let e : j.table ≡ marked l.table at g.layout.block =
+    elim j.branch [
+      | then-has_bit s ↦ s.table-is ∙ s.clear.ensures ∙ ap (marked l.table at) size
+      | else-has_bit s ↦ s.table-is ∙ sym (marked-none l.table at g.layout.block (none s.if-has_bit.false))
+    ] in
+    (j.auto.table ∙ l.invariant.0, (rw l.invariant.1 at e) ∙ marked_append a.table.now (a.n * g.layout.row) (l.i * g.layout.block) g.layout.block ∙ ap (marked a.table.now (a.n * g.layout.row)) (sym (row_next l.i g.layout.block)))
 
 pub returns : goal.returns
 returns c =
