@@ -23,7 +23,8 @@ use pattern::Edge;
 use weighting::{Weighing, choose, combine};
 
 // What one tick gains in each place, by stage: just entered, or staying. MARK where the place cannot be stayed in.
-// A number and no Option, as in the cells, which a host in C lends. An array for each stage, as each gain is fetched by its place.
+// A number and no Option, as in the cells, which a host in C lends. An array for each stage, as the theorems of `table_laws`
+// speak of each (`Known`: entered, staying).
 #[derive(Clone, Copy)]
 pub struct View {
     pub entered: [i64; 16],
@@ -61,7 +62,7 @@ pub struct Links {
     pub nexts: [u8; 32],
 }
 
-// With a count, as the definition has it. It narrows by `as`: both numbers are at most 32, and `try_from` would need an answer
+// With a count, as the definition has it (`Linked`). It narrows by `as`: both numbers are at most 32, and `try_from` would need an answer
 // for a refusal that cannot come.
 pub fn links_of(edges: [Edge; 32], count: usize) -> Links
     requires { Sourced edges count }

@@ -25,7 +25,7 @@ fn note(w: Weighing, r: Option<Report>, v: i64, n: usize) -> Option<Report>
     }
 }
 
-// The flag is the definition's: one call for each move, whether it is told or not.
+// The flag is the definition's (`told_move`): one call for each move, whether it is told or not.
 pub fn note_if(w: Weighing, on: bool, r: Option<Report>, v: i64, n: usize) -> Option<Report>
     ensures { result ≡ cond on (noted w r v n) r }
 {

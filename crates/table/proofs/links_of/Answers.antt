@@ -1,6 +1,6 @@
 -- `links_of` goes from the last edge to the first, and puts each before the list of its place.
 use native.Mathlib.Omega.{arith}
-use mathlib.Core.Path.{◌≡◌, refl}
+use mathlib.Core.Path.{◌≡◌}
 use Rattle.table.proofs.Linking.{links_none, links_more, links_all}
 use Rattle.table.proofs.links_of.Goals as goal
 
