@@ -8,6 +8,7 @@ use borrow.Author.Tests.{ltb-true, leb-true, lt-ltb, le-leb, eqb-true, eqb-false
 use lib.Dec.{eqb, leb, ltb}
 use lib.ListN.{length, get_or, set, take}
 use lib.Seq.{get_or-set_same, get_or-set_other}
+use Rattle.std.specs.List.{fold, zip}
 use Rattle.integers.proofs.Tests.{both_true}
 use Rattle.pattern.specs.declared.Sign.{Sign}
 use Rattle.pattern.specs.declared.Sign.TheVariants.{Less, AtMost, More, AtLeast}
@@ -154,6 +155,17 @@ four_are (a ∷ b ∷ []) d e = absurd (let z : ◌≡◌ {A = ℕ} 2 4 = e in o
 four_are (a ∷ b ∷ c ∷ []) d e = absurd (let z : ◌≡◌ {A = ℕ} 3 4 = e in omega arith)
 four_are (a ∷ b ∷ c ∷ f ∷ []) d e = refl
 four_are (a ∷ b ∷ c ∷ f ∷ g ∷ xs) d e = absurd (let z : suc (suc (suc (suc (suc (length xs))))) ≡ 4 = e in omega arith)
+
+-- four tests one after the other
+four_tests : (a b c d : Bool) → ((a && b) && c) && d ≡ a && (b && (c && (d && true)))
+four_tests a b c d = sym (ap (λ (t : Bool). a && (b && (c && t))) (and-true d) ∙ and_last a b (c && d) ∙ and_last (a && b) c d)
+
+pub four_held : (ss : List Span) (cs : Clocks) (s : Span) → length ss ≡ 4 → length cs ≡ 4
+    → fold (λ (b : Bool) (p : Span × ℕ). b && in_span p.0 p.1) true (zip ss cs)
+    ≡ in_span (get_or ss 0 s) (get_or cs 0 0) && (in_span (get_or ss 1 s) (get_or cs 1 0) && (in_span (get_or ss 2 s) (get_or cs 2 0) && (in_span (get_or ss 3 s) (get_or cs 3 0) && true)))
+four_held ss cs s e f =
+    rw (four_are ss s e, four_are cs 0 f)
+    (four_tests (in_span (get_or ss 0 s) (get_or cs 0 0)) (in_span (get_or ss 1 s) (get_or cs 1 0)) (in_span (get_or ss 2 s) (get_or cs 2 0)) (in_span (get_or ss 3 s) (get_or cs 3 0)))
 
 -- the step made of an edge is a step of it
 step-made : (e : Edge) → Fit e → StepOf e (step_of e)
