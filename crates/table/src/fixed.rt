@@ -10,9 +10,9 @@ use steps::Step;
 use weighting::Weighing;
 
 // The layout of the table; how runs are weighed; the edges in use, as the pattern has them, linked place by place and as
-// steps; the places where a run may begin and end, and the least length with which it may end. The edges, of which the
-// contracts alone speak, are an array with a count as in a pattern, where nothing allocates, and in the theorems
-// (`TickKeepsWhole` of `table_laws`).
+// steps; the places where a run may begin and end, and the least length with which it may end. Of the edges the contracts
+// alone speak, but a ghost field can only be a fact (tried): they are an array with a count, as the definitions have them
+// (`common_of` of `feed_ticks`), where nothing allocates.
 #[derive(Drop)]
 pub struct Ground {
     pub layout: Layout,
