@@ -9,7 +9,7 @@ use pattern::clocks::in_use;
 use pattern::{Edge, Guard, Sign};
 
 // The values that guards leave a clock: from `low` to below `upto`.
-// No range of std's: those are not `Copy`.
+// No range of std's: those are not `Copy`, and the array of steps is filled with copies of one.
 #[derive(Clone, Copy)]
 pub struct Span {
     pub low: usize,
