@@ -31,6 +31,21 @@ loop-i-init c =
     let z : 0 * c.args.g.now.layout.block ≡ 0 = zero-mul c.args.g.now.layout.block in
     (refl, rw z refl)
 
+pub overflow_add-at : goal.overflow_add-at
+overflow_add-at c =
+    let l = c.args.g.now.layout in
+    let h = ends l c.args.n c.loop-i.i c.args.g.now.laid c.requires.1 (omega arith) in
+    let s = c.args.g.now.laid.small in
+    omega arith
+
+pub overflow_add-at-then-has_bit : goal.overflow_add-at-then-has_bit
+overflow_add-at-then-has_bit c =
+    let l = c.args.g.now.layout in
+    let h = ends l c.args.n (c.loop-i.i + 1) c.args.g.now.laid c.requires.1 (omega arith) in
+    let next = row_next c.loop-i.i l.block in
+    let s = c.args.g.now.laid.small in
+    omega arith
+
 pub clear-requires : goal.clear-requires
 clear-requires c =
     let a = c.args in
