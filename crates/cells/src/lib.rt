@@ -20,7 +20,7 @@ pub struct Layout {
     pub row: usize,
 }
 
-// A pattern's layout for runs of up to `longest` ticks.
+// A pattern's layout for runs of up to `longest` ticks. Radix by radix, as the definition has them.
 pub fn layout_of(p: SoundPattern, longest: u16) -> Layout
     ensures { result ≡ layout_of p longest }
 {
