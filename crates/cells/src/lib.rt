@@ -2,15 +2,15 @@
 #![tactic(auto)]
 
 ghost use Rattle.std.specs.Prelude.{◌≡◌, ◌+◌, ◌-◌, ◌≤◌, ◌<◌, min};
-ghost use Rattle.cells.specs.Layout.{layout_of, Laid};
+ghost use Rattle.cells.specs.Layout.{layout_of, cells_in};
 ghost use Rattle.cells.specs.Index.{code_of, clocks_at, ticked, Within, block_at, Placed};
 
 use pattern::clocks::radix;
 use pattern::sound_pattern::SoundPattern;
+use std::marker::Model;
 
 // What the index needs: the greatest length, the places, a radix for each of four clocks; then the cells of a block
-// (one length, stage and place) and of a row (one length). That it is `Laid` is no ghost field: definitions speak of the
-// layout of any pattern, sound or not.
+// (one length, stage and place) and of a row (one length).
 #[derive(Clone, Copy)]
 pub struct Layout {
     pub high: usize,
@@ -18,6 +18,29 @@ pub struct Layout {
     pub radices: [usize; 4],
     pub block: usize,
     pub row: usize,
+}
+
+impl Model for Layout {
+    ghost use Rattle.cells.specs.Shape.{Shape};
+
+    ghost Value = { Shape };
+
+    ghost use Rattle.cells.specs.Laid.{Laid};
+
+    ghost view = { λ a. record { high = a.high; places = a.places; radices = a.radices; block = a.block; row = a.row } };
+
+    ghost invariant = { λ a. Laid (record { high = a.high; places = a.places; radices = a.radices; block = a.block; row = a.row }) };
+
+    ghost inverse = { λ s. record { high = s.high; places = s.places; radices = s.radices; block = s.block; row = s.row } };
+}
+
+impl Layout {
+    // The cells of a table that is laid out so.
+    pub fn cells(self) -> usize
+        ensures { result ≡ cells_in self }
+    {
+        (self.high + 1) * self.row
+    }
 }
 
 // A pattern's layout for runs of up to `longest` ticks. Radix by radix, as the definition has them.
@@ -52,7 +75,6 @@ pub fn tick_clock(radix: usize, clock: usize) -> usize
 
 // All clocks one tick later.
 pub fn tick_clocks(l: Layout, clocks: [usize; 4]) -> [usize; 4]
-    requires { Laid l }
     ensures { result ≡ ticked l.radices clocks }
 {
     std::array::from_fn(|k| tick_clock(l.radices[k], clocks[k]))
@@ -60,15 +82,16 @@ pub fn tick_clocks(l: Layout, clocks: [usize; 4]) -> [usize; 4]
 
 // The clocks of the next cell of a block, from those of cell k: no division.
 fn next_clocks(l: Layout, clocks: [usize; 4], k: usize) -> [usize; 4]
-    requires { (Laid l) × (k < l.block) × (clocks ≡ clocks_at l.radices k) }
+    requires { (k < l.block) × (clocks ≡ clocks_at l.radices k) }
     ensures { result ≡ clocks_at l.radices (k + 1) }
 {
+    let [_, s, t, u] = l.radices;
     let [a, b, c, d] = clocks;
-    if d + 1 < l.radices[3] {
+    if d + 1 < u {
         [a, b, c, d + 1]
-    } else if c + 1 < l.radices[2] {
+    } else if c + 1 < t {
         [a, b, c + 1, 0]
-    } else if b + 1 < l.radices[1] {
+    } else if b + 1 < s {
         [a, b + 1, 0, 0]
     } else {
         [a + 1, 0, 0, 0]
@@ -77,7 +100,7 @@ fn next_clocks(l: Layout, clocks: [usize; 4], k: usize) -> [usize; 4]
 
 // The clocks of cell k of a block. One by one, as the definition has them (`clocks_at`); so `code` (`code_of`).
 fn clocks_at(l: Layout, k: usize) -> [usize; 4]
-    requires { (Laid l) × (k < l.block) }
+    requires { (k < l.block) }
     ensures { result ≡ clocks_at l.radices k }
 {
     let [_, s, t, u] = l.radices;
@@ -89,7 +112,7 @@ fn clocks_at(l: Layout, k: usize) -> [usize; 4]
 
 // The clocks of cell `to` of a block, from those of cell k: a division only where cells were left out.
 pub fn clocks_to(l: Layout, clocks: [usize; 4], k: usize, to: usize) -> [usize; 4]
-    requires { (Laid l) × (k ≤ to) × (to < l.block) × (clocks ≡ clocks_at l.radices k) }
+    requires { (k ≤ to) × (to < l.block) × (clocks ≡ clocks_at l.radices k) }
     ensures { result ≡ clocks_at l.radices to }
 {
     if to == k {
@@ -103,7 +126,7 @@ pub fn clocks_to(l: Layout, clocks: [usize; 4], k: usize, to: usize) -> [usize; 
 
 // The cell of a block that has these clocks.
 pub fn code(l: Layout, clocks: [usize; 4]) -> usize
-    requires { (Laid l) × (Within l.radices clocks) }
+    requires { (Within l.radices clocks) }
     ensures { result ≡ code_of l.radices clocks }
 {
     let [a, b, c, d] = clocks;

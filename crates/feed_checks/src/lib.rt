@@ -9,7 +9,7 @@ ghost use Rattle.pattern.specs.declared.Refusal.TheVariants.{BrokenCell};
 ghost use Rattle.pattern.specs.Sound.{is_null, sound_of};
 ghost use Rattle.pattern.specs.Cells.{cells_needed};
 ghost use Rattle.record.specs.Record.{value_in_range};
-ghost use Rattle.cells.specs.Layout.{cells_in, Laid};
+ghost use Rattle.cells.specs.Layout.{cells_in};
 ghost use Rattle.flags.specs.Flags.{RowFlagged, Flagged};
 ghost use Rattle.monitor.specs.Cells.{layout};
 ghost use Rattle.monitor.specs.State.{state_sound};
@@ -116,7 +116,7 @@ pub struct RowLook {
 // A row whose blocks have one cell each, as in a pattern without clocks: one loop over its cells. That they are there is asked of the
 // table, here and below, since a host in C lends one of any length.
 fn look_cells(table: &[i64], l: Layout, n: usize) -> RowLook
-    requires { (Laid l) × (cells_in l ≤ length table.now) × (n ≤ l.high) × (l.block ≡ 1) }
+    requires { (cells_in l ≤ length table.now) × (n ≤ l.high) × (l.block ≡ 1) }
     ensures fine_value { result.fine ≡ all cell_fine (take l.row (drop (n * l.row) table.now)) }
     ensures row_flagged { RowFlagged l table.now result.flags n }
 {
@@ -132,18 +132,19 @@ fn look_cells(table: &[i64], l: Layout, n: usize) -> RowLook
 }
 
 fn look_row(table: &[i64], l: Layout, n: usize) -> RowLook
-    requires { (Laid l) × (cells_in l ≤ length table.now) × (n ≤ l.high) }
+    requires { (cells_in l ≤ length table.now) × (n ≤ l.high) }
     ensures fine_value { result.fine ≡ all cell_fine (take l.row (drop (n * l.row) table.now)) }
     ensures row_flagged { RowFlagged l table.now result.flags n }
 {
     if l.block == 1 {
         return look_cells(table, l, n);
     }
+    let size = l.block;
     let from = n * l.row;
     let mut fine = true;
     let mut flags = 0;
     for i in 0..2 * l.places {
-        let b = look_block(table, from + i * l.block, l.block);
+        let b = look_block(table, from + i * size, size);
         fine &= b.fine;
         flags = with_bit(flags, i, b.held);
     }
@@ -153,7 +154,7 @@ fn look_row(table: &[i64], l: Layout, n: usize) -> RowLook
 // Of a table only the needed cells count. They are looked at row by row, which also finds the flags of their blocks.
 // That the cells are there, as above.
 pub fn cells_broken(table: &[i64], l: Layout, flags: &mut [u32]) -> bool
-    requires { (Laid l) × (cells_in l ≤ length table.now) × (l.high < length flags.old) }
+    requires { (cells_in l ≤ length table.now) × (l.high < length flags.old) }
     ensures value { result ≡ not (all cell_fine (take (cells_in l) table.now)) }
     ensures flagged { Flagged l table.now flags.new }
 {

@@ -43,6 +43,6 @@ impl Plan {
     pub fn cells(self) -> usize
         ensures { result ≡ cells_needed self }
     {
-        (self.layout.high + 1) * self.layout.row
+        self.layout.cells()
     }
 }

@@ -217,6 +217,6 @@ pub fn open(table: &mut [i64], l: Layout, w: Weighing, starts: [bool; 16])
     requires { Filed table.old l }
     ensures { table.new ≡ open_of l w starts table.old }
 {
-    clear(table, 0, (l.high + 1) * l.row);
+    clear(table, 0, l.cells());
     begin(table, l, w, starts);
 }

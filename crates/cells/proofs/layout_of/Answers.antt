@@ -1,7 +1,9 @@
 -- `layout_of` is the pattern's layout; a sound pattern's products fit.
 use native.Mathlib.Omega.{arith}
+use mathlib.Core.Path.{sym, subst}
 use Rattle.pattern.proofs.SoundLaws.{parts}
-use Rattle.cells.proofs.Layouts.{products, layout_is}
+use Rattle.cells.specs.Laid.{Laid}
+use Rattle.cells.proofs.Layouts.{products, layout_is, layout-laid}
 use Rattle.cells.proofs.layout_of.Goals as goal
 
 pub overflow_mul-block : goal.overflow_mul-block
@@ -31,3 +33,9 @@ pub returns : goal.returns
 returns c =
     rw (c.from.ensures, c.from-places.ensures, ← c.p.view_is)
     (layout_is c.p.inside.pattern c.args.longest _ _ _ _ c.radix-a.ensures c.radix-b.ensures c.radix-c.ensures c.radix-d.ensures)
+
+pub invariant_of-result : goal.invariant_of-result
+invariant_of-result c =
+    rw (c.from.ensures, c.from-places.ensures)
+    (subst Laid (sym (layout_is c.p.inside.pattern c.args.longest _ _ _ _ c.radix-a.ensures c.radix-b.ensures c.radix-c.ensures c.radix-d.ensures))
+    (layout-laid c.p.inside.pattern c.args.longest c.p.invariant (omega arith)))

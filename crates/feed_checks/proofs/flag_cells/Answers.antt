@@ -8,4 +8,4 @@ unfolding layout_of
 cells_broken-requires c =
     let i = c.p.inside in
     let m = layout-made i.pattern c.p.invariant.0 i.layout c.p.invariant.1 in
-    (m.0, rw (m.1, c.p.view_is) c.requires.0, rw (c.p.invariant.1, c.p.view_is) c.requires.1)
+    (rw (m.1, c.p.view_is) c.requires.0, rw (c.p.invariant.1, c.p.view_is) c.requires.1)

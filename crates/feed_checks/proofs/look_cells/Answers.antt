@@ -2,7 +2,7 @@
 use borrow.Author.Rules.{rules}
 use native.Mathlib.Omega.{arith}
 use native.Mathlib.Nat.{mul-one}
-use mathlib.Core.Path.{◌≡◌, refl, sym}
+use mathlib.Core.Path.{◌≡◌, refl, sym, subst}
 use mathlib.Core.Bool.{not}
 use Prim.Native.Nat.{◌+◌, ◌*◌, ◌≤◌, ◌<◌}
 use lib.IntN.{pos}
@@ -17,7 +17,7 @@ use Rattle.feed_checks.proofs.Looks.{one_cell, cell-more}
 use Rattle.feed_checks.proofs.Marks.{mark-bits}
 use Rattle.feed_checks.proofs.Flagging.{flagged-more}
 use Rattle.cells.specs.declared.Layout.{Layout}
-use Rattle.cells.specs.Layout.{Laid}
+use Rattle.cells.specs.Layout.{cells_in, Laid}
 use Rattle.feed_checks.proofs.look_cells.Goals as goal
 
 -- the row has a cell for each flag
@@ -29,13 +29,15 @@ few l h one =
 pub loop-i-preserved : goal.loop-i-preserved
 loop-i-preserved c =
     let l = c.loop-i in
-    let s = c in
-    let a = s.args in
+    let a = c.args in
     let t = a.table.now in
-    let from = a.n * a.l.row in
+    let o = c.l.inside in
+    let from = a.n * o.row in
+    let s : Layout = record { high = o.high; places = o.places; radices = o.radices; block = o.block; row = o.row } in
     let v = get_or t (from + l.i) (pos 0) in
     let fits : SFits w64 v = record { sfits = search rules } in
-    let h : from + l.i < length t = omega (arith, row_inside a.l a.n s.requires.2, s.requires.1) in
+    let asked = subst (λ (s : Layout). (cells_in s ≤ length t) × (a.n ≤ s.high) × (s.block ≡ 1)) (sym c.l.view_is) c.requires in
+    let h : from + l.i < length t = omega (arith, row_inside s a.n asked.1, asked.0) in
     let one : l.i * 1 ≡ l.i = mul-one l.i in (
       rw (l.invariant.0, c.cell_fine-fine.ensures, read_back w64 v fits) (sym (cell-more cell_fine t from l.i h)),
       rw (c.with_bit-flags.ensures, mark-bits v fits) (flagged-more t from 1 l.i l.flags (not (is_mark v)) (omega arith) (rw (one, one_cell is_mark t (from + l.i) h) refl) l.invariant.1),

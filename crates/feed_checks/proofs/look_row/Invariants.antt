@@ -9,4 +9,4 @@ use Rattle.feed_checks.proofs.look_row.Given as goal
 
 abbrev pub invariant-loop-i : goal.invariant-loop-i
 invariant-loop-i l =
-    (l.fine ≡ all cell_fine (take (l.i * l.l.block) (drop l.from l.table))) × FlaggedTo l.table l.from l.l.block l.i l.flags
+    (l.fine ≡ all cell_fine (take (l.i * l.size) (drop l.from l.table))) × FlaggedTo l.table l.from l.size l.i l.flags

@@ -56,7 +56,7 @@ code-cell-requires c =
     let a = c.args in
     let four : length a.sent.clocks ≡ 4 = omega arith in
     let h = along a.g.now a.n a.i a.sent.clocks four c.requires.0 c.requires.1 in
-    (a.g.now.laid, rw c.after.ensures h.within)
+    rw c.after.ensures h.within
 
 -- the cell lies in the table
 inside : {t : List ℤ} (g : Ground) (n i to cell : ℕ) (cs d : Clocks) → length cs ≡ 4 → Moving t g.layout n cs → i < g.count → to ≡ block_at g.layout (n + 1) 0 (step_in g.steps i).to → d ≡ after_in (step_in g.steps i) cs → cell ≡ code_of g.layout.radices d → to + cell < length t

@@ -62,7 +62,7 @@ pub code-cell-requires : goal.code-cell-requires
 code-cell-requires c =
     let e = c.tick_clocks-clocks.ensures in
     let g = c.args.g.now in
-    (g.laid, rw e (ticked-within g.layout c.args.clocks g.laid))
+    rw e (ticked-within g.layout c.args.clocks g.laid)
 
 pub overflow_add-to : goal.overflow_add-to
 overflow_add-to c =

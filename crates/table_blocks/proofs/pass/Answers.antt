@@ -3,11 +3,12 @@
 use borrow.Author.Rules.{rules}
 use Prim.Native.Nat.{◌+◌, ◌<◌}
 use native.Mathlib.Omega.{arith}
-use mathlib.Core.Path.{◌≡◌}
+use mathlib.Core.Path.{◌≡◌, ap}
 use lib.ListN.{length}
 use mir.Syntax.{w64}
 use mir.Val.{to_z, of_z}
 use mir.Facts.{to_z-of_z}
+use Rattle.table.specs.declared.fixed.Ground.{Ground}
 use Rattle.flags.specs.Flags.{flag_at}
 use Rattle.flags.proofs.Flags.{raised_is, grown-refl, grown-trans, raised-grown}
 use Rattle.table.proofs.Steps.{pass_is, pass_no}
@@ -23,11 +24,11 @@ visits-requires c =
     let k = c.requires.1.long in
     let inside : b.len + 1 < length a.flags.now = omega arith in
     let q : to_z w64 (of_z w64 b.gain) ≡ b.gain = to_z-of_z {w = w64} {z = b.gain} (record { sfits = search rules }) in
-    let e = c.raise.ensures in
+    let e = rw (ap (λ (x : Ground). x.layout.places) c.g.view_is) at c.raise.ensures in
     let i : g.layout.places + b.place ≡ flag_at g.layout 1 b.place = omega arith in (
       c.requires.0,
       rw q at c.if-b-gt-MARK.true,
-      c.occupied-first.ensures,
+      rw (ap (λ (x : Ground). x.layout.block) c.g.view_is) at c.occupied-first.ensures,
       rw e (raised-grown g.layout g.laid a.table.now a.flags.now (b.len + 1) (g.layout.places + b.place) inside c.requires.1).flagged,
       rw (e, i) (raised_is a.flags.now (b.len + 1) (flag_at g.layout 1 b.place) inside),
     )
@@ -47,7 +48,7 @@ returns-then-b-gt-MARK c =
     record {
       value = told_pass_lem g.layout g.weighing g.edges g.count a.tells.now b.gain b.len b.place b.start a.table.now a.r _ m e.value;
       table_after = pass_is g.layout g.weighing g.edges g.count b.gain b.len b.place b.start a.table.now _ m e.table_after;
-      grown = grown-trans up (rw c.raise.ensures at e.grown);
+      grown = grown-trans up (rw (c.raise.ensures, ap (λ (x : Ground). x.layout.places) c.g.view_is) at e.grown);
     }
 
 pub returns : goal.returns

@@ -13,6 +13,7 @@ use Rattle.flags.proofs.Flags.{grown-refl, grown-trans}
 use Rattle.table.specs.declared.Sent.{Sent}
 use Rattle.table.specs.Moves.{each, visit_of, visits_of}
 use Rattle.table.specs.Reports.{told_visit, told_visits}
+use Rattle.table.specs.declared.fixed.Ground.{Ground}
 use Rattle.table.proofs.Steps.{each_more, sized_in, passing_kept, passing_moving, sent_visit, visits_skip}
 use Rattle.table.proofs.Told.{visit_same, told_visit_lem, told_skip}
 use Rattle.table.proofs.Flags.{flagged-stay}
@@ -83,7 +84,7 @@ loop-next-preserved c =
     let m = c.leaves-best in
     let s = c.visit-sent.result in
     let e = c.visit-sent.ensures in
-    let o = c.occupied-next.ensures in
+    let o = rw (ap (λ (x : Ground). x.layout.block) c.g.view_is) at c.occupied-next.ensures in
     let next = c.occupied-next.result in
     let here = c.clocks_to-here.ensures in
     let apart = c.requires.0.apart in

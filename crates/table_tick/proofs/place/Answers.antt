@@ -1,11 +1,12 @@
 -- `place` moves the cells just entered and then those staying; the row that it reads lies before the row that it writes.
 use Prim.Native.Nat.{ℕ, ◌+◌, ◌*◌, ◌<◌}
 use native.Mathlib.Omega.{arith}
-use mathlib.Core.Path.{◌≡◌, refl, sym, ◌∙◌}
+use mathlib.Core.Path.{◌≡◌, refl, sym, ◌∙◌, ap}
 use mathlib.Core.Bool.{false}
 use mir.Syntax.{w64}
 use mir.Val.{to_z, of_z}
 use mir.Facts.{to_z-of_z}
+use Rattle.table.specs.declared.fixed.Ground.{Ground}
 use Rattle.cells.specs.declared.Layout.{Layout}
 use Rattle.cells.specs.Layout.{Laid}
 use Rattle.cells.specs.Index.{block_at}
@@ -64,7 +65,7 @@ loop-stage-preserved c =
     let low = c.requires.0.ready.low in
     -- a block without a flag holds only marks
     let marks : c.has_bit.result ≡ false → Empty l.table (block_at g.layout a.n l.stage a.p) g.layout.block =
-    λ none i h. rw (block_start g.layout a.n l.stage a.p) ((l.invariant.grown.flagged.rows a.n (omega arith)).marks (flag_at g.layout l.stage a.p) i (flag_low g.layout l.stage a.p (omega arith) c.requires.0.place) h (bit_unset _ _ (rw c.has_bit.ensures at none))) in
+    λ none i h. rw (block_start g.layout a.n l.stage a.p) ((l.invariant.grown.flagged.rows a.n (omega arith)).marks (flag_at g.layout l.stage a.p) i (flag_low g.layout l.stage a.p (omega arith) c.requires.0.place) h (bit_unset _ _ (rw (c.has_bit.ensures, ap (λ (x : Ground). x.layout.places) c.g.view_is) at none))) in
     let e : j.table ≡ stage_pass g.layout w g.edges g.count y z a.n a.p l.stage l.table =
     elim j.branch [
       | then-has_bit s ↦ s.table-is ∙ rw (k, f, at) at s.pass-best.ensures.table_after

@@ -2,12 +2,13 @@
 use borrow.Author.Rules.{rules}
 use Prim.Native.Nat.{◌+◌, ◌*◌}
 use native.Mathlib.Omega.{arith}
-use mathlib.Core.Path.{◌≡◌, refl, ◌∙◌}
+use mathlib.Core.Path.{◌≡◌, refl, ◌∙◌, ap}
 use lib.IntN.{pos}
 use lib.ListN.{get_or}
 use mir.Syntax.{w64}
 use mir.Val.{to_z, of_z}
 use mir.Facts.{to_z-of_z}
+use Rattle.table.specs.declared.fixed.Ground.{Ground}
 use Rattle.flags.proofs.Flags.{grown-refl, grown-trans}
 use Rattle.table.specs.Moves.{each, gain_at, place_of}
 use Rattle.table.specs.Reports.{told_place}
@@ -25,6 +26,7 @@ place-best-requires c =
     let a = c.args in
     let g = a.g.now in
     let l = c.loop-p in
+    let places = ap (λ (x : Ground). x.layout.places) c.g.view_is in
     let x = get_or a.v.now.entered l.p (pos 0) in
     let y = get_or a.v.now.staying l.p (pos 0) in
     let q : to_z w64 (of_z w64 x) ≡ x = to_z-of_z {w = w64} {z = x} (record { sfits = search rules }) in
@@ -44,6 +46,7 @@ loop-p-preserved c =
     let r : to_z w64 (of_z w64 y) ≡ y = to_z-of_z {w = w64} {z = y} (record { sfits = search rules }) in
     let u = c.place-best.new.table in
     let low = c.requires.1.low in
+    let places = ap (λ (x : Ground). x.layout.places) c.g.view_is in
     let e : u ≡ place_of g.layout w g.edges g.count (gain_at v.entered l.p) (gain_at v.staying l.p) a.n l.p l.table = rw (q, r) at c.place-best.ensures.table_after in
     let f : c.place-best.result ≡ told_place g.layout w g.edges g.count a.tells.now (gain_at v.entered l.p) (gain_at v.staying l.p) a.n l.p a.table.now l.best =
     (rw (q, r) at c.place-best.ensures.value) ∙ place_same g.layout w g.edges g.count a.tells.now a.n a.table.now l.table l.invariant.kept g.laid (omega arith) _ _ l.p l.best (omega arith) in

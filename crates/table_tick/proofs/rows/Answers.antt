@@ -1,8 +1,9 @@
 -- `rows` goes from the longest row to the shortest.
 use Prim.Native.Nat.{◌+◌, ◌-◌, ◌*◌}
 use native.Mathlib.Omega.{arith}
+use Rattle.table.specs.declared.fixed.Ground.{Ground}
 use Rattle.std.proofs.Common.{rules}
-use mathlib.Core.Path.{◌≡◌, ◌∙◌}
+use mathlib.Core.Path.{◌≡◌, ◌∙◌, ap}
 use Rattle.table.proofs.Kept.{Kept, row_kept}
 use Rattle.table.proofs.Steps.{rows-ready, row-long, rows-bounded, rows_again, rows_end}
 use Rattle.table.proofs.Told.{told_again, told-end}
@@ -17,6 +18,7 @@ advance-best-requires c =
     let l = c.loop-n in
     let g = c.args.g.now in
     let low = l.auto.n in
+    let high = ap (λ (x : Ground). x.layout.high) c.g.view_is in
     (c.requires.0, rows-ready g.layout l.table l.n (rw l.invariant.long c.requires.1.inside) c.loop-n-test.true (omega arith) l.invariant.bounded, l.invariant.flagged)
 
 pub loop-n-preserved : goal.loop-n-preserved
@@ -28,6 +30,7 @@ loop-n-preserved c =
     let v = a.v.now in
     let some = c.loop-n-test.true in
     let low = l.auto.n in
+    let high = ap (λ (x : Ground). x.layout.high) c.g.view_is in
     let e = c.advance-best.ensures.table_after in
     let up : l.n - 1 + 1 ≡ l.n = omega arith in
     let kept : Kept (l.n * g.layout.row) l.table c.advance-best.new.table = rw e (rw up at (row_kept g.layout w v g.edges g.count (l.n - 1) l.table)) in

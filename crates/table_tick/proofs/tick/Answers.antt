@@ -2,7 +2,10 @@
 use Prim.Native.Nat.{◌+◌, ◌*◌}
 use native.Mathlib.Omega.{arith}
 use native.Mathlib.Nat.{zero-mul}
-use mathlib.Core.Path.{◌≡◌}
+use mathlib.Core.Path.{◌≡◌, subst}
+use Rattle.flags.specs.Flags.{start_flags}
+use Rattle.table.specs.declared.fixed.Ground.{Ground}
+use Rattle.table.specs.Moves.{begun}
 use Rattle.table.proofs.Steps.{whole-rows, tick_is}
 use Rattle.table.proofs.Flags.{flagged-starts}
 use Rattle.table_tick.proofs.tick.Goals as goal
@@ -21,10 +24,11 @@ returns c =
     let z : 0 * g.layout.row ≡ 0 = zero-mul g.layout.row in
     let n : 0 + g.layout.row ≡ g.layout.row = omega arith in
     let e = rw (z, n) at w.table_after in
-    let b = c.begin.ensures in
+    let b = subst (λ (x : Ground). c.begin.new.table ≡ begun g.layout x.weighing x.starts c.wipe_row.new.table) c.g.view_is c.begin.ensures in
+    let raised = subst (λ (x : Ground). c.raise_starts.new.flags ≡ start_flags x.starts x.layout.places c.wipe_row.new.flags) c.g.view_is c.raise_starts.ensures in
     let f = flagged-starts g.layout g.laid _ g.starts g.layout.places _ _ (omega arith) w.flagged in
     record {
       value = r.value;
       table_after = tick_is g.layout g.weighing a.v.now g.edges g.count g.starts a.table.now _ _ _ r.table_after e b;
-      flagged = rw (b, c.raise_starts.ensures) f;
+      flagged = rw (b, raised) f;
     }
