@@ -111,8 +111,7 @@ fn feed_some(
         &mut scores,
         &mut lengths,
     );
-    let Plan { pattern, .. } = p;
-    let choice = choose_all(pattern, s.choice, s.state.ticks, ticks, &scores, &lengths);
+    let choice = choose_all(p.pattern, s.choice, s.state.ticks, ticks, &scores, &lengths);
     Search { state, choice }
 }
 
@@ -135,8 +134,7 @@ fn feed_part(
         (total (take piece record.entry.durations.now) + count)) first.old }
     ensures flagged { Flagged (layout p) first.new flags.new }
 {
-    let Plan { pattern, .. } = p;
-    let channels = usize::from(pattern.channels);
+    let channels = usize::from(p.pattern.channels);
     let at = piece * channels;
     let sample = &record.values[at..at + channels];
     let mut left = count;
@@ -180,8 +178,7 @@ fn feed_whole(
     ensures flagged { Flagged (layout p) first.new flags.new }
 {
     let duration = record.durations[piece];
-    let Plan { pattern, .. } = p;
-    let moved = duration.min(u32::from(pattern.high) + 1);
+    let moved = duration.min(u32::from(p.pattern.high) + 1);
     let search = feed_part(p, record, piece, moved, s, first, flags);
     pass_rest(search, duration - moved)
 }

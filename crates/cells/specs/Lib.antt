@@ -1,5 +1,5 @@
-pub mod Laid
-pub mod Shape
 -- Read in this order: how a table is laid out, then where a cell stands and which clocks it has.
+pub mod Shape
+pub mod Laid
 pub mod Layout
 pub mod Index

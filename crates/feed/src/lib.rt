@@ -68,7 +68,7 @@ fn feed_with(
 
 // Feeding a piece: 7, 12, 11, 8, 13, 14, 6; else a score and a length for each tick. A table of few rows gets few flags:
 // clearing those of the highest window is a measurable part of a short call on it.
-// The slices come one by one, as there.
+// The slices come one by one, as in `feed_with`.
 pub fn feed(
     s: State,
     p: Pattern,

@@ -75,16 +75,12 @@ pub struct Look {
     pub held: bool,
 }
 
-// Whether all are fine. Each is looked at, also after one that is not, without a branch for each (decision 50). Measured in a look at
-// a full table of 100,130 cells: `all` takes 2.5 times as long, `fold` 1.06 times.
+// Whether all are fine. Each is looked at, also after one that is not, without a branch for each (decision 50). With `all` a look at a
+// full table of 100,130 cells takes 2.5 times as long (measured).
 fn all_fine(cells: &[i64]) -> bool
     ensures { result ≡ all cell_fine cells.now }
 {
-    let mut fine = true;
-    for cell in cells {
-        fine &= cell_fine(*cell);
-    }
-    fine
+    cells.iter().fold(true, |fine, cell| fine & cell_fine(*cell))
 }
 
 // The cells of one block. The marks before its first worth are passed over, as a tick passes over them.
@@ -131,6 +127,7 @@ fn look_cells(table: &[i64], l: Layout, n: usize) -> RowLook
     RowLook { fine, flags }
 }
 
+// A row, block by block.
 fn look_row(table: &[i64], l: Layout, n: usize) -> RowLook
     requires { (cells_in l ≤ length table.now) × (n ≤ l.high) }
     ensures fine_value { result.fine ≡ all cell_fine (take l.row (drop (n * l.row) table.now)) }

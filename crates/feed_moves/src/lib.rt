@@ -38,9 +38,8 @@ pub fn open_both(p: Plan, first: &mut [i64], second: &mut [i64])
     ensures first_after { first.new ≡ written p (open_table p) first.old }
     ensures second_after { second.new ≡ marks p second.old }
 {
-    let Plan { pattern, layout } = p;
-    let starts = kind_flags(pattern, is_start);
-    table_tick::open(first, layout, pattern.weighing, starts);
+    let starts = kind_flags(p.pattern, is_start);
+    table_tick::open(first, p.layout, p.pattern.weighing, starts);
     mark_all(p, second);
 }
 
@@ -50,9 +49,8 @@ pub fn flag_opened(p: Plan, flags: &mut [u32])
     ensures { (t : List ℤ) → cells_needed p ≤ length t
         → Flagged (layout p) (written p (open_table p) t) flags.new }
 {
-    let Plan { pattern, .. } = p;
-    let starts = kind_flags(pattern, is_start);
-    raise_starts(flags, starts, usize::from(pattern.placecount));
+    let starts = kind_flags(p.pattern, is_start);
+    raise_starts(flags, starts, usize::from(p.pattern.placecount));
 }
 
 // The piece's values, then what stood behind them.
@@ -89,18 +87,17 @@ fn tell_piece(
         ≡ lengths_in p last.now values.now first.old duration lengths.old }
     ensures flagged { Flagged (layout p) first.new flags.new }
 {
-    let Plan { pattern, .. } = p;
     let g = ground_of(p);
-    let v = view_in(pattern, last, values);
-    let u = view_in(pattern, values, values);
-    let still = u32::from(pattern.high) + 1;
+    let v = view_in(p.pattern, last, values);
+    let u = view_in(p.pattern, values, values);
+    let still = u32::from(p.pattern.high) + 1;
     let moved = duration.min(still) as usize;
     tell_all(first, flags, scores, lengths, moved, &g, &v, &u);
     repeat_last(scores, lengths, moved, duration as usize);
 }
 
 // What feeding does to the first table and the report slices when it is not refused.
-// The slices come one by one, as there.
+// The slices come one by one, as in `tell_piece`.
 pub fn feed_piece(
     s: State,
     p: Plan,
@@ -124,8 +121,7 @@ pub fn feed_piece(
     ensures flagged { Flagged (layout p) first.new flags.new }
 {
     let last = s.last;
-    let Plan { pattern, .. } = p;
-    let used = in_use(&last, pattern.channels);
+    let used = in_use(&last, p.pattern.channels);
     tell_piece(p, used, duration, values, first, flags, scores, lengths);
     let after = last_after(last, values);
     State {

@@ -55,7 +55,7 @@ pub fn ground_of(p: Plan) -> Ground
 }
 
 // Does a tick count in a place: in margin always, in sum if the place was just entered or the tick is a new observation there.
-// The values before and the tick's own are two lent slices, here and below.
+// The values before and the tick's own are two lent slices, here and below. The flag `entered` is the definitions' (`counts`, `gain_in`).
 fn tick_counts(w: Weighing, l: Place, last: &[i32], values: &[i32], entered: bool) -> bool
     ensures { result ≡ counts w (not (agrees l last.now values.now)) entered }
 {
@@ -83,7 +83,7 @@ pub fn view_in(p: Pattern, last: &[i32], values: &[i32]) -> View
     View { entered, staying }
 }
 
-// The first tick sees one view, the later ones another.
+// The first tick sees one view, the later ones another: by the tick's number, as the definition `view_at` has it.
 fn view_at<'a>(first: &'a View, later: &'a View, i: usize) -> &'a View
     ensures { result.now ≡ view_at first.now later.now i }
 {
@@ -117,7 +117,7 @@ fn tell(
 }
 
 // All ticks of a piece, each with its report: the first sees the view v, the later ones u.
-// Both report slices, as there.
+// Both report slices, as in `tell`.
 pub fn tell_all(
     first: &mut [i64],
     flags: &mut [u32],
@@ -141,7 +141,7 @@ pub fn tell_all(
 }
 
 // The last report that was told, once more for each tick through which the table stands still.
-// Both report slices, as there.
+// Both report slices, as in `tell`.
 pub fn repeat_last(scores: &mut [i64], lengths: &mut [u32], from: usize, to: usize)
     requires { (from ≤ to) × (to ≤ length scores.old) × (to ≤ length lengths.old) × (from < to → 1 ≤ from) }
     ensures scores_after { scores.new

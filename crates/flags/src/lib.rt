@@ -14,7 +14,7 @@ pub fn has_bit(x: u32, i: usize) -> bool
     (x >> i) % 2 == 1
 }
 
-// A number with bit i set, if `on` says so, as the definition has it.
+// A number with bit i set, if `on` says so: `look_cells` asks it of each cell of a row, held or not (`feed_checks`).
 pub fn with_bit(x: u32, i: usize, on: bool) -> u32
     requires { i < 32 }
     ensures { result ≡ cond on (bit_or x (2 ^ i)) x }
@@ -23,11 +23,12 @@ pub fn with_bit(x: u32, i: usize, on: bool) -> u32
 }
 
 // The flag of block i of row n is raised.
+#[tactic(auto, unfolding(crate::specs::Flags::raised))]
 pub fn raise(flags: &mut [u32], n: usize, i: usize)
     requires { (n < length flags.old) × (i < 32) }
     ensures { flags.new ≡ raised flags.old n i }
 {
-    flags[n] = with_bit(flags[n], i, true);
+    flags[n] |= 1 << i;
 }
 
 // The flags of the start places' blocks, where empty runs stand.

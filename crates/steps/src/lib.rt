@@ -25,10 +25,10 @@ pub struct Step {
 }
 
 // What a guard leaves of a span.
-fn narrow(s: Span, sign: Sign, bound: usize) -> Span
-    requires { bound < 65536 }
+fn narrow(s: Span, sign: Sign, bound: u16) -> Span
     ensures { result ≡ narrowed s sign bound }
 {
+    let bound = usize::from(bound);
     match sign {
         Sign::Less => Span {
             low: s.low,
@@ -54,7 +54,7 @@ fn narrow_on(s: Span, g: Guard, clock: u8) -> Span
     ensures { result ≡ narrowed_on clock g s }
 {
     if g.clock == clock {
-        narrow(s, g.sign, usize::from(g.bound))
+        narrow(s, g.sign, g.bound)
     } else {
         s
     }

@@ -2,7 +2,7 @@
 // moved by a tick; it stays, and goes along the edges out of its place whose guards hold. What is offered to an end place
 // just entered is noted for the report as it is offered. A block that a worth enters along an edge has its flag raised; that
 // of the block that it stays in was raised before, once for all worths of a block (`table_blocks`, `pass`). The table and its
-// flags are passed apart: what is known of both needs the layout too, so one struct of them would hold three references.
+// flags are passed apart, with what is known of both (`Flagged`), which needs the layout, too.
 #![tactic(auto)]
 
 pub mod fixed;
@@ -79,6 +79,7 @@ pub fn links_of(edges: [Edge; 32], count: usize) -> Links
     Links { firsts, nexts }
 }
 
+// One more worth, offered to cell j.
 fn offer(table: &mut [i64], w: Weighing, j: usize, worth: i64)
     requires { j < length table.old }
     ensures { table.new ≡ offered w table.old j worth }

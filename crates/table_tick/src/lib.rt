@@ -27,7 +27,7 @@ pub fn clear(table: &mut [i64], from: usize, to: usize)
     table[from..to].fill(MARK);
 }
 
-// What a tick gains in a stage, a number as in an index (`cells::block_at`).
+// What a tick gains in a stage, a number as in an index (`cells::block_at`), and by it, as the definition has it.
 fn gain_in(entered: i64, staying: i64, stage: usize) -> i64
     ensures { result ≡ gain_in entered staying stage }
 {
@@ -68,7 +68,7 @@ fn place(
 }
 
 // Row n into row n + 1, place by place: each cell of those blocks of row n that have a flag is looked at once.
-// That its gains are in range is asked of the view, and is no field's fact: definitions speak of any view.
+// That its gains are in range is asked of the view and the layout: it speaks of the places that the layout has.
 fn row(
     table: &mut [i64],
     flags: &mut [u32],
