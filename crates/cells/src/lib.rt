@@ -43,7 +43,8 @@ impl Layout {
     }
 }
 
-// A pattern's layout for runs of up to `longest` ticks. Radix by radix, as the definition has them.
+// A pattern's layout for runs of up to `longest` ticks. Radix by radix, since the product names each (tried by `map`: the proof then tells
+// them apart again, one by one).
 pub fn layout_of(p: SoundPattern, longest: u16) -> Layout
     ensures { result ≡ layout_of p longest }
 {
