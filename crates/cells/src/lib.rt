@@ -10,7 +10,8 @@ use pattern::sound_pattern::SoundPattern;
 use std::marker::Model;
 
 // What the index needs: the greatest length, the places, a radix for each of four clocks; then the cells of a block
-// (one length, stage and place) and of a row (one length). In a clause it is its `Shape`, which definitions have of any pattern.
+// (one length, stage and place) and of a row (one length). In a clause it is its `Shape`, which definitions have of any
+// pattern.
 #[derive(Clone, Copy)]
 pub struct Layout {
     pub high: usize,

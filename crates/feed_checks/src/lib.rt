@@ -76,11 +76,15 @@ pub struct Look {
 }
 
 // Whether all are fine. Each is looked at, also after one that is not, without a branch for each (decision 50). With `all` a look at a
-// full table of 100,130 cells takes 2.5 times as long (measured).
+// full table of 100,130 cells takes 2.5 times as long, and with `fold` a call on a small one 5% more instructions (measured).
 fn all_fine(cells: &[i64]) -> bool
     ensures { result ≡ all cell_fine cells.now }
 {
-    cells.iter().fold(true, |fine, cell| fine & cell_fine(*cell))
+    let mut fine = true;
+    for cell in cells {
+        fine &= cell_fine(*cell);
+    }
+    fine
 }
 
 // The cells of one block. The marks before its first worth are passed over, as a tick passes over them.

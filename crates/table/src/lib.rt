@@ -2,7 +2,9 @@
 // moved by a tick; it stays, and goes along the edges out of its place whose guards hold. What is offered to an end place
 // just entered is noted for the report as it is offered. A block that a worth enters along an edge has its flag raised; that
 // of the block that it stays in was raised before, once for all worths of a block (`table_blocks`, `pass`). The table and its
-// flags are passed apart, with what is known of both (`Flagged`), which needs the layout, too.
+// flags are passed apart, with what is known of both (`Flagged`). A struct of both with that fact would be lent by `&mut`, and each
+// contract would say in its place that it still holds the same two references, as `Puts` of `text_put` does (tried: else a caller
+// knows nothing of its table).
 #![tactic(auto)]
 
 pub mod fixed;
