@@ -146,15 +146,15 @@ pub enum Refusal {
     BrokenCell,
 }
 
-// "channels 1 to 8; clocks 0 to 4; the window's low, 1 to 4,095; its high, low to 4,095" (By `contains` of ranges the proof did
-// not close.)
+// "channels 1 to 8; clocks 0 to 4; the window's low, 1 to 4,095; its high, low to 4,095"
+#[tactic(auto, unfolding(crate::specs::Sound::header_in_range))]
 fn header_sound(channels: u8, clocks: u8, low: u16, high: u16) -> bool
     ensures { result ≡ header_in_range channels clocks low high }
 {
-    ((1 <= channels) & (channels <= 8))
-        & (clocks <= 4)
-        & ((1 <= low) & (low <= 4095))
-        & ((low <= high) & (high <= 4095))
+    (1..=8).contains(&channels)
+        && clocks <= 4
+        && (1..=4_095).contains(&low)
+        && (low..=4_095).contains(&high)
 }
 
 fn places_sound(p: Pattern) -> bool
