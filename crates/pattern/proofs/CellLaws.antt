@@ -2,8 +2,17 @@
 use Prim.Native.Nat.{ℕ, zero, suc, ◌+◌, ◌-◌, ◌*◌, ◌^◌, ◌≤◌, ◌<◌}
 use native.Mathlib.Nat.{mul-le-mul, mul-one, pow-suc, pow-le-pow_right, add-zero, add-suc}
 use native.Mathlib.Omega.{arith}
-use mathlib.Core.Path.{◌≡◌, refl, ap, ◌∙◌}
-use mathlib.Core.List.{List, [], ◌∷◌, flat_map}
+use mathlib.Core.Path.{◌≡◌, refl, sym, ap, subst, ◌∙◌}
+use mathlib.Core.List.{List, [], ◌∷◌, map, flat_map}
+use lib.ListN.{length, take}
+use lib.Seq.{take-nil}
+use Rattle.std.specs.List.{fold, range_with_len}
+use Rattle.std.specs.Iterator.{Yields}
+use Rattle.std.specs.Iterator.Runs.{EachRunFrom, YieldsRun}
+use Rattle.std.specs.Prelude.{Option}
+use Rattle.std.proofs.lemmas.List.{map-id}
+use Rattle.std.proofs.lemmas.Iterator.{YieldsList}
+use Rattle.std.proofs.lemmas.Iterator.Consumers.{YieldsList-so_far}
 use mathlib.Core.Bool.{Bool, true, false, cond, ◌&&◌}
 use borrow.Author.Tests.{leb-true, lt-ltb, le-ltb}
 use lib.Dec.{eqb, ltb, lit≤}
@@ -58,6 +67,22 @@ product_low p (suc n) h = rw (pow-suc 1002 n) (mul-le-mul (product_low p n h) (r
 -- so that each product on the way to four fits 64 bits
 pub product_fits : (p : Pattern) (n : ℕ) → sound_of p ≡ true → n ≤ 4 → radix_product p n < 2 ^ 40
 product_fits p n h l = let k = product_low p n h in let m : 1002 ^ n ≤ 1002 ^ 4 = pow-le-pow_right (omega arith) l in omega arith
+
+-- and so does the product of those that came, wherever they stop
+pub radices_fit : {S : Type 0} {steps : S → Option ℕ → S → Type 0} {s : S} (p : Pattern) → sound_of p ≡ true
+    → YieldsList steps (λ x. x) s (map (radix_of p) (range_with_len 0 4)) → EachRunFrom steps s (λ q. fold (λ a x. a * x) 1 q.items < 2 ^ 64)
+unfolding YieldsRun radix_product
+radices_fit {S} {steps} {s} p h road = λ q _ at.
+    let came : Yields steps s q.items q.gave.0.0 = subst (λ u. Yields steps u q.items q.gave.0.0) at q.gave.0.1 in
+    let items = sym (YieldsList-so_far road q.items q.gave.0.0 came) ∙ map-id q.items in
+    subst (λ (xs : List ℕ). fold (λ a x. a * x) 1 xs < 2 ^ 64) items (by (length q.items))
+  where
+    by : (m : ℕ) → fold (λ a x. a * x) 1 (take m (map (radix_of p) (range_with_len 0 4))) < 2 ^ 64
+    by zero = omega arith
+    by (suc zero) = let l : radix_product p 1 < 2 ^ 40 = product_fits p 1 h (lit≤ tt) in omega arith
+    by (suc (suc zero)) = let l : radix_product p 2 < 2 ^ 40 = product_fits p 2 h (lit≤ tt) in omega arith
+    by (suc (suc (suc zero))) = let l : radix_product p 3 < 2 ^ 40 = product_fits p 3 h (lit≤ tt) in omega arith
+    by (suc (suc (suc (suc m)))) = let l : radix_product p 4 < 2 ^ 40 = product_fits p 4 h (lit≤ tt) in rw (take-nil {A = ℕ} m) (omega arith)
 
 -- ---- four radices
 

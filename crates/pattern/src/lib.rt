@@ -189,15 +189,11 @@ pub fn sound(p: Pattern) -> bool
         & edges_sound(p)
 }
 
-// All four radices; a clock that the pattern lacks has radix 1.
+// The product of all four radices; a clock that the pattern lacks has radix 1.
 fn radices(p: SoundPattern) -> u64
     ensures { result ≡ radix_product p 4 }
 {
-    let mut product: u64 = 1;
-    for k in 0..4 {
-        product *= clocks::radix(p.pattern, k);
-    }
-    product
+    (0..4).map(|k| clocks::radix(p.pattern, k)).product()
 }
 
 // "(high + 1) × 2 × places × the product over clocks of (ceiling + 1)"

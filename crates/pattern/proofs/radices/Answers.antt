@@ -1,23 +1,20 @@
-use Rattle.std.proofs.Common.{◌≡◌, ◌*◌, suc, refl, arith}
-use native.Mathlib.Numerals.{add-one}
+-- The radices come in the clocks' order.
+use Rattle.std.proofs.Common.{rules, ◌*◌, refl}
+use Rattle.std.proofs.lemmas.Iterator.{YieldsList-from_range, YieldsList-from_map}
+use Rattle.std.proofs.lemmas.Iterator.Adapters.{total_from_yields_List}
 use Rattle.pattern.specs.Cells.{radix_of, radix_product}
-use Rattle.pattern.proofs.CellLaws.{product_fits}
+use Rattle.pattern.proofs.CellLaws.{radices_fit}
 use Rattle.pattern.proofs.radices.Goals as goal
 
-pub loop-k-init : goal.loop-k-init
-unfolding radix_product
-loop-k-init c = refl
+pub product-requires-clause-fits : goal.product-requires-clause-fits
+product-requires-clause-fits c =
+    radices_fit c.args.p (rw c.p.view_is at c.p.invariant)
+    (YieldsList-from_map _ (radix_of c.args.p) (YieldsList-from_range 0 4 4 c.map.ensures.source refl) c.map.ensures.closure
+    (λ x r q k. search rules))
 
-pub overflow_mul-product : goal.overflow_mul-product
+pub returns : goal.returns
 unfolding radix_product
-overflow_mul-product c =
-    let l = c.loop-k in
-    let k = product_fits c.p.inside.pattern (suc l.k) c.p.invariant (omega arith) in
-    let e : l.product * c.radix-product.result ≡ radix_product c.p.inside.pattern l.k * radix_of c.p.inside.pattern l.k = rw (l.invariant, c.radix-product.ensures) in
-    omega arith
-
-pub loop-k-preserved : goal.loop-k-preserved
-unfolding radix_product
-loop-k-preserved c =
-    let l = c.loop-k in
-    rw (l.invariant, c.radix-product.ensures, add-one l.k)
+returns c =
+    total_from_yields_List (λ a x. a * x) 1 _ c.product.ensures.ran
+    (YieldsList-from_map _ (radix_of c.args.p) (YieldsList-from_range 0 4 4 c.map.ensures.source refl) c.map.ensures.closure
+    (λ x r q k. search rules))
