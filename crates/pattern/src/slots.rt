@@ -5,18 +5,8 @@ ghost use Rattle.pattern.specs.Sound.{test_unused, guard_unused, place_unused, e
 ghost use Rattle.pattern.specs.Sound.{bound_in_range, band_in_range, unsaid_zero, test_in_range, test_sound};
 ghost use Rattle.pattern.specs.Sound.{guard_in_range, guard_known, place_sound, edge_sound};
 ghost use Rattle.std.specs.Fn.{FnReturnsAt};
-ghost use Rattle.std.specs.List.{list_all};
 
 use super::{Edge, Guard, Kind, NO_GUARD, NO_TEST, Place, Sign, Test};
-
-// Whether each element passes the test.
-fn all<T, F: Fn(&T) -> bool>(xs: &[T], test: F) -> bool
-    requires { F.IsAlwaysCallable test }
-    ensures { (p : T → Bool) → ((x : T) (r : Bool) → FnReturnsAt F.Fn test x r → r ≡ p x)
-        → result ≡ list_all p xs.now }
-{
-    xs.iter().all(test)
-}
 
 // Whether an array has its first `count` slots in use, each as `used` has it, and the others as `unused` has them.
 pub fn sound<T, U: Fn(&T) -> bool, N: Fn(&T) -> bool>(
@@ -33,7 +23,7 @@ pub fn sound<T, U: Fn(&T) -> bool, N: Fn(&T) -> bool>(
         → result ≡ slots p q (length xs.now) count xs.now }
 {
     let n = usize::from(count);
-    n <= xs.len() && all(&xs[..n], used) && all(&xs[n..], unused)
+    n <= xs.len() && xs[..n].iter().all(used) && xs[n..].iter().all(unused)
 }
 
 pub fn test_unused(t: Test) -> bool
