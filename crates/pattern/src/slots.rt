@@ -81,11 +81,20 @@ pub fn test_sound(t: Test, channels: u8) -> bool
     test_in_range(t) & (t.channel < channels) & unsaid_zero(t)
 }
 
-// "a bound 0 to 1,000", and a clock of the pattern's
+// "a bound 0 to 1,000"
+#[tactic(auto, unfolding(crate::specs::Sound::guard_in_range))]
+pub fn guard_in_range(g: Guard) -> bool
+    ensures { result ≡ guard_in_range g }
+{
+    g.bound <= 1_000
+}
+
+// In range, and on a clock of the pattern's.
+#[tactic(auto, unfolding(crate::specs::Sound::guard_known))]
 pub fn guard_sound(g: Guard, clocks: u8) -> bool
     ensures { result ≡ guard_in_range g && guard_known clocks g }
 {
-    (g.bound <= 1000) & (g.clock < clocks)
+    guard_in_range(g) & (g.clock < clocks)
 }
 
 // Also whether the slots of a place's tests are as they should be.
