@@ -55,6 +55,7 @@ pub fn after_resets(e: Edge, clocks: [u32; 4]) -> [u32; 4]
     std::array::from_fn(|k| if e.resets[k] { 0 } else { clocks[k] })
 }
 
+// The larger of `most` and the guard's bound, where the guard is on the clock.
 pub fn larger_bound(g: Guard, clock: u8, most: u16) -> u16
     ensures { result ≡ max most (largest (bounds_on clock (g ∷ []))) }
 {

@@ -1,5 +1,5 @@
-// A pattern by value, as document 01 names its parts. Counts say how many slots of an array are in use: the others are zeros
-// (document 01), and nothing is allocated, so there are no lists.
+// A pattern by value, as document 01 names its parts. Counts say how many slots of an array are in use: the others are zeros.
+// No lists: a value with something in an unused slot, or a count past its array, has its answer (7; specs/Slots slots).
 #![tactic(auto)]
 
 pub mod clocks;
@@ -85,8 +85,8 @@ pub struct Pattern {
     pub edges: [Edge; 32],
 }
 
-// Zeros throughout, with the sign `<`, the kind plain and the weighing margin: what a slot that is not in use holds, and a pattern of
-// which nothing was read.
+// Zeros throughout, with the sign `<`, the kind plain and the weighing margin: what a slot that is not in use holds, and a
+// pattern of which nothing was read.
 pub const NO_TEST: Test = Test {
     sign: Sign::Less,
     channel: 0,
@@ -204,7 +204,7 @@ fn cells_needed(p: SoundPattern) -> u64
 }
 
 // The cells needed, or refusal 7.
-#[tactic(auto, unfolding(crate::specs::Cells::cells_of, crate::specs::Cells::cells_numbers), using(crate::proofs::Judged::accepted, crate::proofs::Judged::refused))]
+#[tactic(auto, unfolding(crate::specs::Cells::cells_of), using(crate::proofs::Judged::accepted, crate::proofs::Judged::refused))]
 pub fn cells(p: Pattern) -> Result<u64, Refusal>
     ensures value { result ≡ cells_of p }
     ensures result_value { counted_as result ≡ cells_numbers p }
