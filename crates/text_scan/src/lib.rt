@@ -1,5 +1,5 @@
-// Words and numbers at the front of a lent text, as the definitions of crate pattern_text read them: each function answers what it
-// read and what is left of the text after it.
+// Words and numbers at the front of a lent text, as the definitions of crate pattern_text read them: each function answers what
+// it read and what is left of the text after it. A number is held at a limit: the lesser of the two is answered.
 #![tactic(auto)]
 
 ghost use Rattle.std.specs.Prelude.{◌≡◌, ◌≤◌, ◌<◌, min};
@@ -25,13 +25,11 @@ fn read_digit(text: &[u8]) -> Option<(u32, &[u8])>
     }
 }
 
-// One digit more, held at `most`. Any limit of 32 bits leaves room in 64.
+// One digit more, held at `most`.
 fn held_digit(value: u32, digit: u32, most: u32) -> u32
-    requires { digit < 10 }
     ensures { result ≡ held_digit most value digit }
 {
-    let sum = u64::from(value) * 10 + u64::from(digit);
-    sum.min(u64::from(most)) as u32
+    value.saturating_mul(10).saturating_add(digit).min(most)
 }
 
 // All the digits at the front, after those that gave `value`.
