@@ -106,10 +106,7 @@ fn read_band(text: &[u8]) -> Option<(Test, &[u8])>
 pub fn read_test(text: &[u8]) -> Option<(Test, &[u8])>
     ensures { read_of result ≡ giving held_raw (test.read text.now) }
 {
-    if let Some(found) = read_side(text) {
-        return Some(found);
-    }
-    read_band(text)
+    read_side(text).or_else(|| read_band(text))
 }
 
 // A guard: a sign, a clock, a bound.

@@ -1,9 +1,7 @@
 -- `read_test` meets its contract.
-use Rattle.line_parts.proofs.Either.{side_first, band_next}
+use Rattle.std.proofs.Common.{rules}
+use Rattle.line_parts.proofs.Either.{of_either}
 use Rattle.line_parts.proofs.read_test.Goals as goal
 
-pub returns-in-Some : goal.returns-in-Some
-returns-in-Some c = side_first _ c.in-Some.ensures
-
 pub returns : goal.returns
-returns c = band_next _ _ c.in_default.ensures c.read_band.ensures
+returns c = of_either _ _ _ c.read_side.ensures c.or_else.ensures (λ k. search rules)
