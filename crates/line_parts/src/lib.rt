@@ -56,6 +56,13 @@ pub fn read_weighing(text: &[u8]) -> Option<(Weighing, &[u8])>
     read_first(text, &[Weighing::Margin, Weighing::Sum])
 }
 
+// A space and a number, as a number stands behind another.
+pub fn read_spaced(text: &[u8]) -> Option<(u32, &[u8])>
+    ensures { read_of result ≡ giving held_number ((" " ▸ number).read text.now) }
+{
+    read_number(read_word(text, b" ")?)
+}
+
 // A test by its sign: a sign, a channel, a bound.
 fn read_side(text: &[u8]) -> Option<(Test, &[u8])>
     ensures { read_of result ≡ giving (λ x. held_raw (side_of x)) (side_test.read text.now) }
@@ -115,17 +122,9 @@ pub fn read_guard(text: &[u8]) -> Option<(Guard, &[u8])>
 {
     let (sign, rest) = read_sign(text)?;
     let (clock, rest) = read_number(rest)?;
-    let rest = read_word(rest, b" ")?;
-    let (bound, rest) = read_number(rest)?;
+    let (bound, rest) = read_spaced(rest)?;
     let rest = read_word(rest, b")")?;
     let clock = clock.min(255) as u8;
     let bound = bound.min(65_535) as u16;
     Some((Guard { sign, clock, bound }, rest))
-}
-
-// A space and a number, as a bracket's further clocks stand.
-pub fn read_spaced(text: &[u8]) -> Option<(u32, &[u8])>
-    ensures { read_of result ≡ giving held_number ((" " ▸ number).read text.now) }
-{
-    read_number(read_word(text, b" ")?)
 }
