@@ -75,8 +75,8 @@ impl<T: Part, const N: usize> Parts<T, N> {
     {
         let n = usize::from(self.count);
         self.count = self.count.min(255) + 1;
-        self.in_range = self.in_range & part.is_in_range();
-        self.known = self.known & part.is_known(count);
+        self.in_range &= part.is_in_range();
+        self.known &= part.is_known(count);
         if n < N {
             self.parts[n] = part;
         }
@@ -197,7 +197,7 @@ impl Resets {
         requires { clock ≤ cap }
         ensures { result ≡ add_reset clocks self clock }
     {
-        self.known = self.known & ((self.least <= clock) & (clock < u32::from(clocks)));
+        self.known &= (self.least <= clock) & (clock < u32::from(clocks));
         self.least = clock + 1;
         let n = clock as usize;
         if n < 4 {
