@@ -13,7 +13,7 @@ ghost use Rattle.line_lists.specs.ResetList.{no_resets, add_reset, added};
 ghost use Rattle.line_lists.specs.Shorter.{test_shorter, guard_shorter};
 
 use line_parts::{read_guard, read_spaced, read_test};
-use pattern::slots::test_in_range;
+use pattern::slots::{guard_in_range, test_in_range};
 use pattern::{Guard, NO_GUARD, NO_TEST, Test};
 use text_scan::{read_number, read_word};
 
@@ -145,9 +145,8 @@ impl Part for Guard {
         NO_GUARD
     }
 
-    #[tactic(auto, unfolding(pattern::specs::Sound::guard_in_range))]
     fn is_in_range(self) -> bool {
-        self.bound <= 1_000
+        guard_in_range(self)
     }
 
     #[tactic(auto, unfolding(pattern::specs::Sound::guard_known))]
