@@ -48,7 +48,7 @@ pub trait Part: Copy {
 
 // The parts of a list as read so far: the first ones, their number, held at 256, whether all their numbers are in range,
 // and whether all that they name is known.
-// An array and a count, since nothing is allocated.
+// An array and a count: the count runs on past the array, as `with_part` has it, since a longer list is refused.
 #[derive(Clone, Copy)]
 pub struct Parts<T, const N: usize> {
     pub parts: [T; N],
@@ -69,7 +69,7 @@ impl<T: Part, const N: usize> Parts<T, N> {
         }
     }
 
-    // One part more.
+    // One part more. (By `get_mut` the proof did not close: of an array written through it, std promises no element.)
     fn with(mut self, part: T, count: u8) -> Parts<T, N>
         ensures { result ≡ with_part T.in_range (T.known count) self part }
     {
@@ -191,7 +191,7 @@ impl Resets {
         }
     }
 
-    // One clock more.
+    // One clock more. (No `get_mut`, as in `Parts::with`.)
     fn with(mut self, clock: u32, clocks: u8) -> Resets
         requires { clock ≤ cap }
         ensures { result ≡ add_reset clocks self clock }
@@ -199,7 +199,7 @@ impl Resets {
         self.known &= (self.least <= clock) & (clock < u32::from(clocks));
         self.least = clock + 1;
         let n = clock as usize;
-        if n < 4 {
+        if n < self.flags.len() {
             self.flags[n] = true;
         }
         self
