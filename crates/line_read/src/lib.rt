@@ -8,7 +8,7 @@ ghost use Rattle.text_scan.specs.Scan.{read_of};
 ghost use Rattle.line_read.specs.Lines.{held_header, held_place, held_edge};
 
 use line_lists::{Parts, Resets, read_guards, read_resets, read_tests};
-use line_parts::{read_kind, read_weighing};
+use line_parts::{read_kind, read_spaced, read_weighing};
 use pattern::{Guard, Kind, Test};
 use text_scan::{read_number, read_word};
 use weighting::Weighing;
@@ -46,12 +46,9 @@ pub fn read_header(text: &[u8]) -> Option<(Header, &[u8])>
     let rest = read_word(text, b"(pattern ")?;
     let (weighing, rest) = read_weighing(rest)?;
     let (channels, rest) = read_number(rest)?;
-    let rest = read_word(rest, b" ")?;
-    let (clocks, rest) = read_number(rest)?;
-    let rest = read_word(rest, b" ")?;
-    let (low, rest) = read_number(rest)?;
-    let rest = read_word(rest, b" ")?;
-    let (high, rest) = read_number(rest)?;
+    let (clocks, rest) = read_spaced(rest)?;
+    let (low, rest) = read_spaced(rest)?;
+    let (high, rest) = read_spaced(rest)?;
     let rest = read_word(rest, b")")?;
     let rest = read_word(rest, b"\n")?;
     Some((
@@ -84,8 +81,7 @@ pub fn read_edge(text: &[u8], clocks: u8) -> Option<(EdgeLine, &[u8])>
 {
     let rest = read_word(text, b"(edge ")?;
     let (from, rest) = read_number(rest)?;
-    let rest = read_word(rest, b" ")?;
-    let (to, rest) = read_number(rest)?;
+    let (to, rest) = read_spaced(rest)?;
     let (guards, rest) = read_guards(rest, clocks);
     let (resets, rest) = read_resets(rest, clocks);
     let rest = read_word(rest, b")")?;

@@ -3,6 +3,7 @@ use Rattle.pattern_text.specs.Bytes.{got}
 use Rattle.pattern_text.specs.Form.{mapped, ◌▸◌, ◌◂◌, ◌⨾◌, number}
 use Rattle.pattern_text.specs.Line.{header_line}
 use Rattle.text_scan.proofs.Answered.{met, unmet}
+use Rattle.line_parts.proofs.Spaced.{spaced_there, unspaced}
 use Rattle.line_read.proofs.read_header.Goals as goal
 
 pub returns-in_err-rest : goal.returns-in_err-rest
@@ -18,54 +19,57 @@ unfolding header_line mapped ◌▸◌ ◌⨾◌ ◌◂◌ number
 returns-in_err-channels c =
     rw (c.from_residual-in_err-channels.ensures, ← c.in_ok-rest.ensures, ← c.in_ok-weighing.ensures, unmet _ _ c.in_err-channels.ensures)
 
-pub returns-in_err-rest-2 : goal.returns-in_err-rest-2
-unfolding header_line mapped ◌▸◌ ◌⨾◌ ◌◂◌ number
-returns-in_err-rest-2 c =
-    rw (c.from_residual-in_err-rest-2.ensures, ← c.in_ok-rest.ensures, ← c.in_ok-weighing.ensures, (met _ _ c.in_ok-channels.ensures).is, ← c.in_err-rest-2.ensures)
-
 pub returns-in_err-clocks : goal.returns-in_err-clocks
 unfolding header_line mapped ◌▸◌ ◌⨾◌ ◌◂◌ number
 returns-in_err-clocks c =
-    rw (c.from_residual-in_err-clocks.ensures, ← c.in_ok-rest.ensures, ← c.in_ok-weighing.ensures, (met _ _ c.in_ok-channels.ensures).is, ← c.in_ok-rest-2.ensures, unmet _ _ c.in_err-clocks.ensures)
-
-pub returns-in_err-rest-3 : goal.returns-in_err-rest-3
-unfolding header_line mapped ◌▸◌ ◌⨾◌ ◌◂◌ number
-returns-in_err-rest-3 c =
-    rw (c.from_residual-in_err-rest-3.ensures, ← c.in_ok-rest.ensures, ← c.in_ok-weighing.ensures, (met _ _ c.in_ok-channels.ensures).is, ← c.in_ok-rest-2.ensures, (met _ _ c.in_ok-clocks.ensures).is, ← c.in_err-rest-3.ensures)
+    unspaced c.in_ok-channels.rest.now (unmet _ _ c.in_err-clocks.ensures)
+    (λ h. rw (c.from_residual-in_err-clocks.ensures, ← c.in_ok-rest.ensures, ← c.in_ok-weighing.ensures, (met _ _ c.in_ok-channels.ensures).is, h))
+    (λ s h n. rw (c.from_residual-in_err-clocks.ensures, ← c.in_ok-rest.ensures, ← c.in_ok-weighing.ensures, (met _ _ c.in_ok-channels.ensures).is, h, n))
 
 pub returns-in_err-low : goal.returns-in_err-low
 unfolding header_line mapped ◌▸◌ ◌⨾◌ ◌◂◌ number
 returns-in_err-low c =
-    rw (c.from_residual-in_err-low.ensures, ← c.in_ok-rest.ensures, ← c.in_ok-weighing.ensures, (met _ _ c.in_ok-channels.ensures).is, ← c.in_ok-rest-2.ensures, (met _ _ c.in_ok-clocks.ensures).is, ← c.in_ok-rest-3.ensures, unmet _ _ c.in_err-low.ensures)
-
-pub returns-in_err-rest-4 : goal.returns-in_err-rest-4
-unfolding header_line mapped ◌▸◌ ◌⨾◌ ◌◂◌ number
-returns-in_err-rest-4 c =
-    rw (c.from_residual-in_err-rest-4.ensures, ← c.in_ok-rest.ensures, ← c.in_ok-weighing.ensures, (met _ _ c.in_ok-channels.ensures).is, ← c.in_ok-rest-2.ensures, (met _ _ c.in_ok-clocks.ensures).is, ← c.in_ok-rest-3.ensures, (met _ _ c.in_ok-low.ensures).is, ← c.in_err-rest-4.ensures)
+    let clocks = spaced_there _ _ _ (met _ _ c.in_ok-clocks.ensures).is in
+    unspaced c.in_ok-clocks.rest.now (unmet _ _ c.in_err-low.ensures)
+    (λ h. rw (c.from_residual-in_err-low.ensures, ← c.in_ok-rest.ensures, ← c.in_ok-weighing.ensures, (met _ _ c.in_ok-channels.ensures).is, clocks.space, clocks.digits, h))
+    (λ s h n. rw (c.from_residual-in_err-low.ensures, ← c.in_ok-rest.ensures, ← c.in_ok-weighing.ensures, (met _ _ c.in_ok-channels.ensures).is, clocks.space, clocks.digits, h, n))
 
 pub returns-in_err-high : goal.returns-in_err-high
 unfolding header_line mapped ◌▸◌ ◌⨾◌ ◌◂◌ number
 returns-in_err-high c =
-    rw (c.from_residual-in_err-high.ensures, ← c.in_ok-rest.ensures, ← c.in_ok-weighing.ensures, (met _ _ c.in_ok-channels.ensures).is, ← c.in_ok-rest-2.ensures, (met _ _ c.in_ok-clocks.ensures).is, ← c.in_ok-rest-3.ensures, (met _ _ c.in_ok-low.ensures).is, ← c.in_ok-rest-4.ensures, unmet _ _ c.in_err-high.ensures)
+    let clocks = spaced_there _ _ _ (met _ _ c.in_ok-clocks.ensures).is in
+    let low = spaced_there _ _ _ (met _ _ c.in_ok-low.ensures).is in
+    unspaced c.in_ok-low.rest.now (unmet _ _ c.in_err-high.ensures)
+    (λ h. rw (c.from_residual-in_err-high.ensures, ← c.in_ok-rest.ensures, ← c.in_ok-weighing.ensures, (met _ _ c.in_ok-channels.ensures).is, clocks.space, clocks.digits, low.space, low.digits, h))
+    (λ s h n. rw (c.from_residual-in_err-high.ensures, ← c.in_ok-rest.ensures, ← c.in_ok-weighing.ensures, (met _ _ c.in_ok-channels.ensures).is, clocks.space, clocks.digits, low.space, low.digits, h, n))
 
-pub returns-in_err-rest-5 : goal.returns-in_err-rest-5
+pub returns-in_err-rest-2 : goal.returns-in_err-rest-2
 unfolding header_line mapped ◌▸◌ ◌⨾◌ ◌◂◌ number
-returns-in_err-rest-5 c =
-    rw (c.from_residual-in_err-rest-5.ensures, ← c.in_ok-rest.ensures, ← c.in_ok-weighing.ensures, (met _ _ c.in_ok-channels.ensures).is, ← c.in_ok-rest-2.ensures, (met _ _ c.in_ok-clocks.ensures).is, ← c.in_ok-rest-3.ensures, (met _ _ c.in_ok-low.ensures).is, ← c.in_ok-rest-4.ensures, (met _ _ c.in_ok-high.ensures).is, ← c.in_err-rest-5.ensures)
+returns-in_err-rest-2 c =
+    let clocks = spaced_there _ _ _ (met _ _ c.in_ok-clocks.ensures).is in
+    let low = spaced_there _ _ _ (met _ _ c.in_ok-low.ensures).is in
+    let high = spaced_there _ _ _ (met _ _ c.in_ok-high.ensures).is in
+    rw (c.from_residual-in_err-rest-2.ensures, ← c.in_ok-rest.ensures, ← c.in_ok-weighing.ensures, (met _ _ c.in_ok-channels.ensures).is, clocks.space, clocks.digits, low.space, low.digits, high.space, high.digits, ← c.in_err-rest-2.ensures)
 
-pub returns-in_err-rest-6 : goal.returns-in_err-rest-6
+pub returns-in_err-rest-3 : goal.returns-in_err-rest-3
 unfolding header_line mapped ◌▸◌ ◌⨾◌ ◌◂◌ number
-returns-in_err-rest-6 c =
-    rw (c.from_residual-in_err-rest-6.ensures, ← c.in_ok-rest.ensures, ← c.in_ok-weighing.ensures, (met _ _ c.in_ok-channels.ensures).is, ← c.in_ok-rest-2.ensures, (met _ _ c.in_ok-clocks.ensures).is, ← c.in_ok-rest-3.ensures, (met _ _ c.in_ok-low.ensures).is, ← c.in_ok-rest-4.ensures, (met _ _ c.in_ok-high.ensures).is, ← c.in_ok-rest-5.ensures, ← c.in_err-rest-6.ensures)
+returns-in_err-rest-3 c =
+    let clocks = spaced_there _ _ _ (met _ _ c.in_ok-clocks.ensures).is in
+    let low = spaced_there _ _ _ (met _ _ c.in_ok-low.ensures).is in
+    let high = spaced_there _ _ _ (met _ _ c.in_ok-high.ensures).is in
+    rw (c.from_residual-in_err-rest-3.ensures, ← c.in_ok-rest.ensures, ← c.in_ok-weighing.ensures, (met _ _ c.in_ok-channels.ensures).is, clocks.space, clocks.digits, low.space, low.digits, high.space, high.digits, ← c.in_ok-rest-2.ensures, ← c.in_err-rest-3.ensures)
 
 pub returns : goal.returns
 unfolding header_line mapped ◌▸◌ ◌⨾◌ ◌◂◌ number
 returns c =
-    rw (← c.in_ok-rest.ensures, ← c.in_ok-weighing.ensures, (met _ _ c.in_ok-channels.ensures).is, ← c.in_ok-rest-2.ensures, (met _ _ c.in_ok-clocks.ensures).is, ← c.in_ok-rest-3.ensures, (met _ _ c.in_ok-low.ensures).is, ← c.in_ok-rest-4.ensures, (met _ _ c.in_ok-high.ensures).is, ← c.in_ok-rest-5.ensures, ← c.in_ok-rest-6.ensures)
+    let clocks = spaced_there _ _ _ (met _ _ c.in_ok-clocks.ensures).is in
+    let low = spaced_there _ _ _ (met _ _ c.in_ok-low.ensures).is in
+    let high = spaced_there _ _ _ (met _ _ c.in_ok-high.ensures).is in
+    rw (← c.in_ok-rest.ensures, ← c.in_ok-weighing.ensures, (met _ _ c.in_ok-channels.ensures).is, clocks.space, clocks.digits, low.space, low.digits, high.space, high.digits, ← c.in_ok-rest-2.ensures, ← c.in_ok-rest-3.ensures)
     (λ i. got (record {
       weighing = c.in_ok-weighing.weighing;
       channels = (met _ _ c.in_ok-channels.ensures).made i;
       clocks = (met _ _ c.in_ok-clocks.ensures).made i;
       low = (met _ _ c.in_ok-low.ensures).made i;
       high = (met _ _ c.in_ok-high.ensures).made i;
-    }) c.in_ok-rest-6.rest.now)
+    }) c.in_ok-rest-3.rest.now)
