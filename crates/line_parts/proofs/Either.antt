@@ -28,7 +28,8 @@ module _ (t : Bytes) where
   band_next o e h = rw (unmet (λ x. held_raw (side_of x)) (side_test.read t) e) (h ∙ inside (band_test.read t))
 
 -- as `or_else` answers, where E is what the closure says
-pub of_either : {E : Type 0} (t : Bytes) (o q : Option (Test × Bor Bytes)) → read_of o ≡ giving (λ x. held_raw (side_of x)) (side_test.read t)
-    → MatchOption o E (λ x. q ≡ Some x) → (E → read_of q ≡ giving (λ x. held_raw (inside_of x)) (band_test.read t)) → read_of q ≡ giving held_raw (test.read t)
+pub of_either : {E : Type 0} (t : Bytes) (o q : Option (Test × Bor Bytes))
+    → read_of o ≡ giving (λ x. held_raw (side_of x)) (side_test.read t) → MatchOption o E (λ x. q ≡ Some x)
+    → (E → read_of q ≡ giving (λ x. held_raw (inside_of x)) (band_test.read t)) → read_of q ≡ giving held_raw (test.read t)
 of_either t (Some x) q e h k = ap read_of h ∙ side_first t e
 of_either t None q e h k = band_next t (read_of q) e (k h)

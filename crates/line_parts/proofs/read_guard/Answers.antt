@@ -26,7 +26,14 @@ pub returns-in_err-rest : goal.returns-in_err-rest
 unfolding guard mapped ◌⨾◌ ◌◂◌ number
 returns-in_err-rest c =
     let b = spaced_there _ _ _ (met _ _ c.in_ok-bound.ensures).is in
-    rw (c.from_residual-in_err-rest.ensures, ← c.in_ok-sign.ensures, (met _ _ c.in_ok-clock.ensures).is, b.space, b.digits, ← c.in_err-rest.ensures)
+    rw (
+      c.from_residual-in_err-rest.ensures,
+      ← c.in_ok-sign.ensures,
+      (met _ _ c.in_ok-clock.ensures).is,
+      b.space,
+      b.digits,
+      ← c.in_err-rest.ensures,
+    )
 
 pub returns : goal.returns
 unfolding guard mapped ◌⨾◌ ◌◂◌ number

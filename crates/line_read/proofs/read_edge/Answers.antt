@@ -25,19 +25,47 @@ pub returns-in_err-rest-2 : goal.returns-in_err-rest-2
 unfolding edge_line mapped ◌▸◌ ◌⨾◌ ◌◂◌ number
 returns-in_err-rest-2 c =
     let to = spaced_there _ _ _ (met _ _ c.in_ok-to.ensures).is in
-    rw (c.from_residual-in_err-rest-2.ensures, ← c.in_ok-rest.ensures, (met _ _ c.in_ok-from.ensures).is, to.space, to.digits, (met _ _ c.read_guards.ensures).is, (met _ _ c.read_resets.ensures).is, ← c.in_err-rest-2.ensures)
+    rw (
+      c.from_residual-in_err-rest-2.ensures,
+      ← c.in_ok-rest.ensures,
+      (met _ _ c.in_ok-from.ensures).is,
+      to.space,
+      to.digits,
+      (met _ _ c.read_guards.ensures).is,
+      (met _ _ c.read_resets.ensures).is,
+      ← c.in_err-rest-2.ensures,
+    )
 
 pub returns-in_err-rest-3 : goal.returns-in_err-rest-3
 unfolding edge_line mapped ◌▸◌ ◌⨾◌ ◌◂◌ number
 returns-in_err-rest-3 c =
     let to = spaced_there _ _ _ (met _ _ c.in_ok-to.ensures).is in
-    rw (c.from_residual-in_err-rest-3.ensures, ← c.in_ok-rest.ensures, (met _ _ c.in_ok-from.ensures).is, to.space, to.digits, (met _ _ c.read_guards.ensures).is, (met _ _ c.read_resets.ensures).is, ← c.in_ok-rest-2.ensures, ← c.in_err-rest-3.ensures)
+    rw (
+      c.from_residual-in_err-rest-3.ensures,
+      ← c.in_ok-rest.ensures,
+      (met _ _ c.in_ok-from.ensures).is,
+      to.space,
+      to.digits,
+      (met _ _ c.read_guards.ensures).is,
+      (met _ _ c.read_resets.ensures).is,
+      ← c.in_ok-rest-2.ensures,
+      ← c.in_err-rest-3.ensures,
+    )
 
 pub returns : goal.returns
 unfolding edge_line mapped ◌▸◌ ◌⨾◌ ◌◂◌ number
 returns c =
     let to = spaced_there _ _ _ (met _ _ c.in_ok-to.ensures).is in
-    rw (← c.in_ok-rest.ensures, (met _ _ c.in_ok-from.ensures).is, to.space, to.digits, (met _ _ c.read_guards.ensures).is, (met _ _ c.read_resets.ensures).is, ← c.in_ok-rest-2.ensures, ← c.in_ok-rest-3.ensures)
+    rw (
+      ← c.in_ok-rest.ensures,
+      (met _ _ c.in_ok-from.ensures).is,
+      to.space,
+      to.digits,
+      (met _ _ c.read_guards.ensures).is,
+      (met _ _ c.read_resets.ensures).is,
+      ← c.in_ok-rest-2.ensures,
+      ← c.in_ok-rest-3.ensures,
+    )
     (λ i. got (record {
       from = (met _ _ c.in_ok-from.ensures).made i;
       to = (met _ _ c.in_ok-to.ensures).made i;

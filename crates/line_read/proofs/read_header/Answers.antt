@@ -23,16 +23,46 @@ pub returns-in_err-clocks : goal.returns-in_err-clocks
 unfolding header_line mapped ◌▸◌ ◌⨾◌ ◌◂◌ number
 returns-in_err-clocks c =
     unspaced c.in_ok-channels.rest.now (unmet _ _ c.in_err-clocks.ensures)
-    (λ h. rw (c.from_residual-in_err-clocks.ensures, ← c.in_ok-rest.ensures, ← c.in_ok-weighing.ensures, (met _ _ c.in_ok-channels.ensures).is, h))
-    (λ s h n. rw (c.from_residual-in_err-clocks.ensures, ← c.in_ok-rest.ensures, ← c.in_ok-weighing.ensures, (met _ _ c.in_ok-channels.ensures).is, h, n))
+    (λ h. rw (
+      c.from_residual-in_err-clocks.ensures,
+      ← c.in_ok-rest.ensures,
+      ← c.in_ok-weighing.ensures,
+      (met _ _ c.in_ok-channels.ensures).is,
+      h,
+    ))
+    (λ s h n. rw (
+      c.from_residual-in_err-clocks.ensures,
+      ← c.in_ok-rest.ensures,
+      ← c.in_ok-weighing.ensures,
+      (met _ _ c.in_ok-channels.ensures).is,
+      h,
+      n,
+    ))
 
 pub returns-in_err-low : goal.returns-in_err-low
 unfolding header_line mapped ◌▸◌ ◌⨾◌ ◌◂◌ number
 returns-in_err-low c =
     let clocks = spaced_there _ _ _ (met _ _ c.in_ok-clocks.ensures).is in
     unspaced c.in_ok-clocks.rest.now (unmet _ _ c.in_err-low.ensures)
-    (λ h. rw (c.from_residual-in_err-low.ensures, ← c.in_ok-rest.ensures, ← c.in_ok-weighing.ensures, (met _ _ c.in_ok-channels.ensures).is, clocks.space, clocks.digits, h))
-    (λ s h n. rw (c.from_residual-in_err-low.ensures, ← c.in_ok-rest.ensures, ← c.in_ok-weighing.ensures, (met _ _ c.in_ok-channels.ensures).is, clocks.space, clocks.digits, h, n))
+    (λ h. rw (
+      c.from_residual-in_err-low.ensures,
+      ← c.in_ok-rest.ensures,
+      ← c.in_ok-weighing.ensures,
+      (met _ _ c.in_ok-channels.ensures).is,
+      clocks.space,
+      clocks.digits,
+      h,
+    ))
+    (λ s h n. rw (
+      c.from_residual-in_err-low.ensures,
+      ← c.in_ok-rest.ensures,
+      ← c.in_ok-weighing.ensures,
+      (met _ _ c.in_ok-channels.ensures).is,
+      clocks.space,
+      clocks.digits,
+      h,
+      n,
+    ))
 
 pub returns-in_err-high : goal.returns-in_err-high
 unfolding header_line mapped ◌▸◌ ◌⨾◌ ◌◂◌ number
@@ -40,8 +70,29 @@ returns-in_err-high c =
     let clocks = spaced_there _ _ _ (met _ _ c.in_ok-clocks.ensures).is in
     let low = spaced_there _ _ _ (met _ _ c.in_ok-low.ensures).is in
     unspaced c.in_ok-low.rest.now (unmet _ _ c.in_err-high.ensures)
-    (λ h. rw (c.from_residual-in_err-high.ensures, ← c.in_ok-rest.ensures, ← c.in_ok-weighing.ensures, (met _ _ c.in_ok-channels.ensures).is, clocks.space, clocks.digits, low.space, low.digits, h))
-    (λ s h n. rw (c.from_residual-in_err-high.ensures, ← c.in_ok-rest.ensures, ← c.in_ok-weighing.ensures, (met _ _ c.in_ok-channels.ensures).is, clocks.space, clocks.digits, low.space, low.digits, h, n))
+    (λ h. rw (
+      c.from_residual-in_err-high.ensures,
+      ← c.in_ok-rest.ensures,
+      ← c.in_ok-weighing.ensures,
+      (met _ _ c.in_ok-channels.ensures).is,
+      clocks.space,
+      clocks.digits,
+      low.space,
+      low.digits,
+      h,
+    ))
+    (λ s h n. rw (
+      c.from_residual-in_err-high.ensures,
+      ← c.in_ok-rest.ensures,
+      ← c.in_ok-weighing.ensures,
+      (met _ _ c.in_ok-channels.ensures).is,
+      clocks.space,
+      clocks.digits,
+      low.space,
+      low.digits,
+      h,
+      n,
+    ))
 
 pub returns-in_err-rest-2 : goal.returns-in_err-rest-2
 unfolding header_line mapped ◌▸◌ ◌⨾◌ ◌◂◌ number
@@ -49,7 +100,19 @@ returns-in_err-rest-2 c =
     let clocks = spaced_there _ _ _ (met _ _ c.in_ok-clocks.ensures).is in
     let low = spaced_there _ _ _ (met _ _ c.in_ok-low.ensures).is in
     let high = spaced_there _ _ _ (met _ _ c.in_ok-high.ensures).is in
-    rw (c.from_residual-in_err-rest-2.ensures, ← c.in_ok-rest.ensures, ← c.in_ok-weighing.ensures, (met _ _ c.in_ok-channels.ensures).is, clocks.space, clocks.digits, low.space, low.digits, high.space, high.digits, ← c.in_err-rest-2.ensures)
+    rw (
+      c.from_residual-in_err-rest-2.ensures,
+      ← c.in_ok-rest.ensures,
+      ← c.in_ok-weighing.ensures,
+      (met _ _ c.in_ok-channels.ensures).is,
+      clocks.space,
+      clocks.digits,
+      low.space,
+      low.digits,
+      high.space,
+      high.digits,
+      ← c.in_err-rest-2.ensures,
+    )
 
 pub returns-in_err-rest-3 : goal.returns-in_err-rest-3
 unfolding header_line mapped ◌▸◌ ◌⨾◌ ◌◂◌ number
@@ -57,7 +120,20 @@ returns-in_err-rest-3 c =
     let clocks = spaced_there _ _ _ (met _ _ c.in_ok-clocks.ensures).is in
     let low = spaced_there _ _ _ (met _ _ c.in_ok-low.ensures).is in
     let high = spaced_there _ _ _ (met _ _ c.in_ok-high.ensures).is in
-    rw (c.from_residual-in_err-rest-3.ensures, ← c.in_ok-rest.ensures, ← c.in_ok-weighing.ensures, (met _ _ c.in_ok-channels.ensures).is, clocks.space, clocks.digits, low.space, low.digits, high.space, high.digits, ← c.in_ok-rest-2.ensures, ← c.in_err-rest-3.ensures)
+    rw (
+      c.from_residual-in_err-rest-3.ensures,
+      ← c.in_ok-rest.ensures,
+      ← c.in_ok-weighing.ensures,
+      (met _ _ c.in_ok-channels.ensures).is,
+      clocks.space,
+      clocks.digits,
+      low.space,
+      low.digits,
+      high.space,
+      high.digits,
+      ← c.in_ok-rest-2.ensures,
+      ← c.in_err-rest-3.ensures,
+    )
 
 pub returns : goal.returns
 unfolding header_line mapped ◌▸◌ ◌⨾◌ ◌◂◌ number
@@ -65,7 +141,19 @@ returns c =
     let clocks = spaced_there _ _ _ (met _ _ c.in_ok-clocks.ensures).is in
     let low = spaced_there _ _ _ (met _ _ c.in_ok-low.ensures).is in
     let high = spaced_there _ _ _ (met _ _ c.in_ok-high.ensures).is in
-    rw (← c.in_ok-rest.ensures, ← c.in_ok-weighing.ensures, (met _ _ c.in_ok-channels.ensures).is, clocks.space, clocks.digits, low.space, low.digits, high.space, high.digits, ← c.in_ok-rest-2.ensures, ← c.in_ok-rest-3.ensures)
+    rw (
+      ← c.in_ok-rest.ensures,
+      ← c.in_ok-weighing.ensures,
+      (met _ _ c.in_ok-channels.ensures).is,
+      clocks.space,
+      clocks.digits,
+      low.space,
+      low.digits,
+      high.space,
+      high.digits,
+      ← c.in_ok-rest-2.ensures,
+      ← c.in_ok-rest-3.ensures,
+    )
     (λ i. got (record {
       weighing = c.in_ok-weighing.weighing;
       channels = (met _ _ c.in_ok-channels.ensures).made i;
