@@ -23,7 +23,7 @@ ghost use Rattle.pattern_lines.specs.Turn.{
 
 use line_lists::Parts;
 use line_read::{EdgeLine, Header, PlaceLine, read_edge, read_header, read_place};
-use pattern::{Edge, NO_EDGE, NO_PLACE, Pattern, Place, Refusal, Test};
+use pattern::{Edge, NO_PATTERN, Pattern, Place, Refusal, Test};
 
 // 4, 3, 5, in this order.
 #[tactic(auto, unfolding(crate::specs::Turn::verdict_of, pattern_text::specs::Fault::judged))]
@@ -65,10 +65,7 @@ fn header_alone(h: Header) -> Pattern
         clocks: h.clocks.min(255) as u8,
         low: h.low.min(65_535) as u16,
         high: h.high.min(65_535) as u16,
-        placecount: 0,
-        places: [NO_PLACE; 16],
-        edgecount: 0,
-        edges: [NO_EDGE; 32],
+        ..NO_PATTERN
     }
 }
 
