@@ -171,11 +171,11 @@ pub fn further_line<'a>(text: &'a [u8], p: &mut Pattern) -> Result<&'a [u8], Ref
     ensures left { left_by result ≡ (line_turn p.old text.now).0 }
     ensures pattern { p.new ≡ (line_turn p.old text.now).1 }
 {
-    if p.edgecount == 0 {
-        if let Some((line, rest)) = read_place(text, p.channels) {
-            add_place(p, line)?;
-            return Ok(rest);
-        }
+    if p.edgecount == 0
+        && let Some((line, rest)) = read_place(text, p.channels)
+    {
+        add_place(p, line)?;
+        return Ok(rest);
     }
     edge_line(text, p)
 }
