@@ -1,5 +1,5 @@
-// The lines of a pattern text (document 01, 'Read a pattern'): the line at the front of a text is judged by what the lines above it
-// gave, and then what it holds is put into the pattern. The walk over all lines is the crate pattern_read's.
+// The lines of a pattern text (document 01, 'Read a pattern'): the line at the front of a text is judged by what the lines above
+// it gave, and then what it holds is put into the pattern. The walk over all lines is the crate pattern_read's.
 #![tactic(auto)]
 
 ghost use Rattle.std.specs.Prelude.{◌≡◌};
