@@ -1,4 +1,5 @@
-// The definitions of the pattern text, what is proved of them, and the words that stand for values in it: read and written alike.
+// The definitions of the pattern text, what is proved of them, and the words that stand for values in it, each with the
+// bracket and the spaces that stand beside it: read and written alike.
 #![tactic(auto)]
 
 ghost use Rattle.std.specs.Prelude.{◌≡◌};
@@ -8,7 +9,7 @@ ghost use Rattle.pattern_text.specs.Line.{sign_word, kind_word, weighing_word};
 use pattern::{Kind, Sign};
 use weighting::Weighing;
 
-// A value that a word stands for.
+// A value that a word stands for, as ` (< ` or `margin `.
 pub trait Word: Copy {
     ghost spelled: { Self → String };
 

@@ -1,2 +1,2 @@
--- Definitions: words and numbers at a position.
+-- Definitions: words and numbers at the front of a text.
 pub mod Scan
