@@ -24,7 +24,8 @@ impl<'a> Writer<'a> {
         Writer { text, at: 0 }
     }
 
-    // One byte, where there is room for it.
+    // One byte, where there is room for it. (By `get_mut` the proof did not close: of a slice written through it, std promises
+    // no element.)
     pub fn byte(&mut self, byte: u8)
         ensures { Puts self.old self.new (byte ∷ []) }
     {
