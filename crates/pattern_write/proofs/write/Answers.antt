@@ -3,6 +3,8 @@ use Rattle.std.proofs.Common.{◌≡◌, ◌∙◌, ℕ, true, sym, arith}
 use lib.ListN.{length-replicate}
 use lib.Seq.{length-take-le}
 use Rattle.pattern.specs.Sound.{sound_of}
+use Rattle.std.proofs.lemmas.Result.{err_from_is_err_and}
+use Rattle.pattern.proofs.Judged.{accepted, refused}
 use Rattle.pattern_text.specs.Text.{render_of}
 use Rattle.pattern_text.proofs.Theorems.{texts_short}
 use Rattle.pattern_write.proofs.Answers.{Whole, whole, copied, unsound, too_short, written}
@@ -10,17 +12,20 @@ use Rattle.pattern_write.proofs.write.Goals as goal
 use Rattle.pattern_write.proofs.write.Goals.{After-put_pattern-n}
 
 is_sound : (c : After-put_pattern-n) → sound_of c.args.p ≡ true
-is_sound c = sym c.sound.ensures ∙ c.if-not-sound.false
+is_sound c = (accepted c.args.p _ c.in_ok-p.ensures).0
 
 in_text : (c : After-put_pattern-n) → Whole c.put_pattern-n.new.text c.put_pattern-n.result (render_of c.args.p)
 in_text c =
     let room = length-replicate {A = ℕ} 8_192 0 in
-    whole c.put_pattern-n.ensures (rw room (texts_short c.args.p (is_sound c)))
+    let same = c.p.view_is ∙ (accepted c.args.p _ c.in_ok-p.ensures).1 in
+    whole (rw same at c.put_pattern-n.ensures) (rw room (texts_short c.args.p (is_sound c)))
 
-pub returns-then-not-sound : goal.returns-then-not-sound
-returns-then-not-sound c =
-    let k = unsound c.args.p c.args.out.now (sym c.sound.ensures ∙ c.if-not-sound.true) in
-    record { value = k.0; result_value = k.1; out_after = k.2 }
+pub returns-in_err-p : goal.returns-in_err-p
+returns-in_err-p c =
+    let r = refused c.args.p _ c.in_err-p.ensures in
+    let k = unsound c.args.p c.args.out.now r.0 in
+    let e = err_from_is_err_and c.from_residual.result c.from_residual.ensures.1 in
+    record { value = rw (e.1, e.2, r.1) k.0; result_value = rw (e.1, e.2, r.1) k.1; out_after = k.2 }
 
 pub returns-then-out-n : goal.returns-then-out-n
 returns-then-out-n c =
