@@ -234,13 +234,13 @@ pub fn best(
         ≡ best_second p durations.now values.now first.old second.old }
 {
     let plan = Plan::new(p)?;
-    if !record_sound(p.channels, durations, values) {
+    let record = Record { durations, values };
+    if !record_sound(p.channels, record) {
         return Err(Refusal::BrokenRecord);
     }
     let state = open(p, first, second)?;
     let mut flags = [0; 4096];
     flag_opened(plan, &mut flags);
-    let record = Record { durations, values };
     let start = Search {
         state,
         choice: None,

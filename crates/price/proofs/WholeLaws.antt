@@ -24,14 +24,14 @@ use Rattle.pattern.specs.Distance.{place_worth}
 use Rattle.pattern.proofs.SoundLaws.{both}
 use Rattle.price.specs.declared.Begin.{Begin}
 use Rattle.price_runs.specs.declared.Stand.{Stand}
-use Rattle.record.specs.Record.{Book, ticks_of, pieces_of, book_of, total}
+use Rattle.record.specs.Record.{Book, ticks_of, pieces_of, book_of, total, record_sound}
 use Rattle.record.specs.Joined.{agrees, joined, observed}
 use Rattle.record.specs.Run.{Step, can_step, clocks_after, goes, is_run, length_of, steps_of}
 use Rattle.record.specs.Worth.{stay_worth, stay_worths, run_worth, price_of}
 use Rattle.price.specs.Price.{steps_fit}
 use Rattle.price_stays.specs.Walk.{ahead}
 use Rattle.price_runs.specs.Stand.{score_from, outcome, Held}
-use Rattle.price.specs.Whole.{Found, stand_of, start_of, Fit}
+use Rattle.price.specs.Whole.{Found, stand_of, start_of}
 use Rattle.std.proofs.lemmas.List.{get_or_default}
 use Rattle.record.proofs.RecordLaws.{parts, part_sound, length-ticks, drop_pieces, ticks-from}
 use Rattle.record.proofs.PlaceLaws.{stays-worth-all}
@@ -160,7 +160,7 @@ zero-at (suc (suc zero)) = refl
 zero-at (suc (suc (suc zero))) = refl
 zero-at (suc (suc (suc (suc k)))) = refl
 
-module _ (p : Pattern) (ds : List ℕ) (vs : List ℤ) (begin : ℕ) (es ss : List ℕ) (h : Fit p ds vs begin es ss) (r : Begin) (f : Found ds begin r) where
+module _ (p : Pattern) (ds : List ℕ) (vs : List ℤ) (begin : ℕ) (es ss : List ℕ) (kept : record_sound p.channels ds vs ≡ true) (fit : steps_fit ds begin es ss ≡ true) (r : Begin) (f : Found ds begin r) where
   -- where the code stands at the begin, in the part of the record from the begin's piece on
   abbrev pub at_begin : Stand
   at_begin = stand_of p (get_or es 0 0) r.used (total ds - begin)
@@ -169,17 +169,18 @@ module _ (p : Pattern) (ds : List ℕ) (vs : List ℤ) (begin : ℕ) (es ss : Li
   unfolding book_of
   book-long = length-ticks p.channels ds vs
 
+  pub kept-at-begin : record_sound p.channels (drop r.piece ds) (drop (r.piece * p.channels) vs) ≡ true
+  kept-at-begin = let in-piece = f.inside in part_sound p.channels r.piece ds vs kept (omega arith)
+
   pub held-at-begin : Held p (drop r.piece ds) (drop (r.piece * p.channels) vs) at_begin
   held-at-begin =
-      let k = parts p.channels ds vs h.kept in
+      let k = parts p.channels ds vs kept in
       let short = k.short in
       let in-piece = f.inside in
       let below = f.below in
       let first : get_or (drop r.piece ds) 0 1 ≡ get_or ds r.piece 0 =
       get_or-drop r.piece ds 0 1 ∙ ap (λ (i : ℕ). get_or ds i 1) (add-zero r.piece) ∙ get_or_default ds r.piece 1 0 in-piece in
       record {
-        sound = h.sound;
-        kept = part_sound p.channels r.piece ds vs h.kept (omega arith);
         stands = record { inside = omega arith; below = omega arith };
         left = rw (← begin-ahead p.channels ds vs begin r f, length-drop begin (book_of p.channels ds vs), book-long);
         clocks = λ k. omega (arith, zero-at k);
@@ -189,7 +190,7 @@ module _ (p : Pattern) (ds : List ℕ) (vs : List ℤ) (begin : ℕ) (es ss : Li
   pub outcome-at-begin : outcome p (drop r.piece ds) (drop (r.piece * p.channels) vs) (start_of p (get_or es 0 0) r.used (total ds - begin)) (steps_of es ss)
       ≡ price_of p (book_of p.channels ds vs) begin (steps_of es ss)
   outcome-at-begin =
-      let g = steps ds begin es ss h.steps in
+      let g = steps ds begin es ss fit in
       let same = g.same in
       let some_step = g.some_step in
       let within = g.within in

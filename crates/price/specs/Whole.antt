@@ -1,15 +1,13 @@
 -- How the code goes through a whole run, from its begin to its end place. No promise of a public operation speaks of this.
-use Rattle.std.specs.Prelude.{ℕ, ◌+◌, ◌<◌, ◌≡◌, List, true, cond, length, take, get_or, ℤ, Option, Some, None}
+use Rattle.std.specs.Prelude.{ℕ, ◌+◌, ◌<◌, ◌≡◌, List, cond, length, take, get_or, Option, Some, None}
 use Rattle.weighting.proofs.Weightings.{weighting_of}
 use Rattle.pattern.specs.declared.Pattern.{Pattern}
 use Rattle.pattern.specs.InUse.{place_at, edge_at}
 use Rattle.pattern.specs.Kinds.{is_start}
 use Rattle.pattern.specs.Clocks.{zero_clocks}
-use Rattle.pattern.specs.Sound.{sound_of}
-use Rattle.record.specs.Record.{total, record_sound}
+use Rattle.record.specs.Record.{total}
 use Rattle.price_runs.specs.declared.Stand.{Stand}
 use Rattle.price.specs.declared.Begin.{Begin}
-use Rattle.price.specs.Price.{steps_fit}
 
 -- The piece that begin lies in, and the ticks of it that lie before begin.
 pub record Found (durations : List ℕ) (begin : ℕ) (r : Begin) : Type 0 where
@@ -33,9 +31,3 @@ stand_of p edge used left =
 abbrev pub start_of : Pattern → (edge used left : ℕ) → Option Stand
 start_of p edge used left =
     cond (is_start (place_at p (edge_at p edge).from).kind) (Some (stand_of p edge used left)) None
-
--- Nothing is refused with 7, 8 or 9.
-pub record Fit (p : Pattern) (durations : List ℕ) (values : List ℤ) (begin : ℕ) (edges stays : List ℕ) : Type 0 where
-  pub sound : sound_of p ≡ true
-  pub kept : record_sound p.channels durations values ≡ true
-  pub steps : steps_fit durations begin edges stays ≡ true

@@ -1,17 +1,18 @@
 // Pricing a run laid out edge by edge: what it is refused for, where it begins, its steps, and what it comes to.
 #![tactic(auto)]
 
-ghost use Rattle.std.specs.Prelude.{◌≡◌, ◌≤◌, ◌<◌, length, Some};
+ghost use Rattle.std.specs.Prelude.{◌≡◌, ◌≤◌, ◌<◌, length, Some, true};
 ghost use Rattle.pattern.specs.InUse.{place_at, edge_at};
-ghost use Rattle.record.specs.Record.{total, book_of};
+ghost use Rattle.record.specs.Record.{total};
 ghost use Rattle.record.specs.Run.{steps_of};
 ghost use Rattle.record.specs.Worth.{price_of};
-ghost use Rattle.price_runs.specs.Stand.{outcome, Held};
+ghost use Rattle.price_runs.specs.Within.{book_in, outcome_in, HeldIn};
 ghost use Rattle.price.specs.Price.{steps_fit, scored, priced_of, priced_as, priced_numbers};
-ghost use Rattle.price.specs.Whole.{Found, start_of, Fit};
+ghost use Rattle.price.specs.Whole.{Found, start_of};
 
-use pattern::{Kind, Pattern, Refusal, is_end, is_start, sound};
-use price_runs::{Stand, run};
+use pattern::sound_pattern::SoundPattern;
+use pattern::{Kind, Pattern, Refusal, is_end, is_start};
+use price_runs::{Course, Stand};
 use record::Record;
 use record::rules::{record_sound, ticks};
 use weighting::unit;
@@ -24,7 +25,7 @@ pub struct Begin {
 }
 
 // What 9 asks of the lists and the begin.
-// The lent slices come one by one, as `price` takes them; so in `score`.
+// Edges and stays come as two slices, here and below: packed they would only be taken apart by `price_runs::Course::run`.
 fn steps_fit(durations: &[u32], begin: u32, edges: &[u32], stays: &[u32]) -> bool
     requires { length durations.now ≤ 4096 }
     ensures { result ≡ steps_fit durations.now begin edges.now stays.now }
@@ -85,47 +86,33 @@ fn start(p: Pattern, edge: u32, used: u32, left: u32) -> Option<Stand>
 }
 
 // The steps, and "the last edge enters an end place".
-// The edges and stays come as two slices, as a host in C lends them; what is held is about pattern and record, as in `price_runs::step`.
-fn score_from(
-    p: Pattern,
-    lent: Record,
-    s: Stand,
-    edges: &[u32],
-    stays: &[u32],
-) -> Result<i64, Refusal>
-    requires { Held p lent.durations.now lent.values.now s }
-    ensures { result ≡ scored (outcome p lent.entry.durations.now lent.entry.values.now (Some s)
-        (steps_of edges.now stays.now)) }
+fn score_from(course: &Course, s: Stand, edges: &[u32], stays: &[u32]) -> Result<i64, Refusal>
+    requires { HeldIn course.now s }
+    ensures { result ≡ scored (outcome_in course.now (Some s) (steps_of edges.now stays.now)) }
 {
-    let end = run(p, lent, s, edges, stays).ok_or(Refusal::NotARun)?;
-    if !is_end(kind_at(p, end.place)) {
+    let end = course.run(s, edges, stays).ok_or(Refusal::NotARun)?;
+    if !is_end(kind_at(course.pattern, end.place)) {
         return Err(Refusal::NotARun);
     }
     Ok(end.worth)
 }
 
 // The run from the begin's piece onward.
-fn score(
-    p: Pattern,
-    durations: &[u32],
-    values: &[i32],
-    begin: u32,
-    edges: &[u32],
-    stays: &[u32],
-) -> Result<i64, Refusal>
-    requires { Fit p durations.now values.now begin edges.now stays.now }
-    ensures { result ≡ scored (price_of p (book_of p.channels durations.now values.now) begin
-        (steps_of edges.now stays.now)) }
+fn score(course: &Course, begin: u32, edges: &[u32], stays: &[u32]) -> Result<i64, Refusal>
+    requires { steps_fit course.now.lent.durations.now begin edges.now stays.now ≡ true }
+    ensures { result ≡ scored (price_of course.now.pattern (book_in course.now) begin (steps_of edges.now stays.now)) }
 {
+    let p = course.pattern;
+    let Record { durations, values } = course.lent;
     let found = find(durations, begin);
     let at = found.piece * usize::from(p.channels);
     let left = ticks(durations) as u32 - begin;
+    let s = start(p, edges[0], found.used, left).ok_or(Refusal::NotARun)?;
     let lent = Record {
         durations: &durations[found.piece..],
         values: &values[at..],
     };
-    let s = start(p, edges[0], found.used, left).ok_or(Refusal::NotARun)?;
-    score_from(p, lent, s, edges, stays)
+    score_from(&Course { pattern: p, lent }, s, edges, stays)
 }
 
 // What the run is worth, or refusal 7, 8, 9 or 10. Any slices are answered, and none is written. They come one by one, as a host
@@ -143,14 +130,17 @@ pub fn price(
     ensures result_value { priced_as result ≡ priced_numbers p durations.now values.now begin
         edges.now stays.now }
 {
-    if !sound(p) {
-        return Err(Refusal::UnsoundPattern);
-    }
-    if !record_sound(p.channels, durations, values) {
+    let sound = SoundPattern::new(p)?;
+    let lent = Record { durations, values };
+    if !record_sound(p.channels, lent) {
         return Err(Refusal::BrokenRecord);
     }
     if !steps_fit(durations, begin, edges, stays) {
         return Err(Refusal::BrokenSteps);
     }
-    score(p, durations, values, begin, edges, stays)
+    let course = Course {
+        pattern: sound.pattern,
+        lent,
+    };
+    score(&course, begin, edges, stays)
 }

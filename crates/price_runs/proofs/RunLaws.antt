@@ -22,6 +22,7 @@ use Rattle.pattern.proofs.SoundLaws.{edge-parts}
 use Rattle.pattern.proofs.SoundLaws as pattern-laws
 use Rattle.price_runs.specs.declared.Stand.{Stand}
 use Rattle.price_stays.specs.declared.Walk.{Walk}
+use Rattle.record.specs.Record.{record_sound}
 use Rattle.record.specs.Run.{Step, can_step, clocks_after, steps_of}
 use Rattle.price_stays.specs.Walk.{ahead, Walks, Stayed}
 use Rattle.price_runs.specs.Stand.{Room, can_leave, score_from, outcome, Held, Stepped}
@@ -77,12 +78,12 @@ module _ (p : Pattern) (ds : List ℕ) (vs : List ℤ) (s : Stand) (h : Held p d
   room n l k = omega (arith, h.clocks k)
 
   -- a stay in a place of the pattern
-  pub walks : (l : Place) (k n : ℕ) → l ≡ place_at p k → k < p.placecount → n ≤ s.left
+  pub walks : (sound : sound_of p ≡ true) → record_sound p.channels ds vs ≡ true → (l : Place) (k n : ℕ) → l ≡ place_at p k → k < p.placecount → n ≤ s.left
       → Walks p.weighing l p.channels ds vs s.piece (record { piece = s.piece; used = s.used; left = n; worth = s.worth })
-  walks l k n is has fits =
+  walks sound kept l k n is has fits =
       record {
-        sound = h.kept;
-        mild = λ x e. rw is (place-size p.channels (place_at p k) x (place-at-sound p k h.sound has) e p.weighing);
+        sound = kept;
+        mild = λ x e. rw is (place-size p.channels (place_at p k) x (place-at-sound p k sound has) e p.weighing);
         stands = h.stands;
         onward = omega arith;
         enough = let e = h.left in omega arith;
@@ -99,8 +100,6 @@ module _ (p : Pattern) (ds : List ℕ) (vs : List ℤ) (s : Stand) (h : Held p d
       let long = h.left in
       record {
         held = record {
-          sound = h.sound;
-          kept = h.kept;
           stands = stayed.stands;
           left = rw (stayed.rest, length-drop x.stay B) (ap (λ (n : ℕ). n - x.stay) h.left);
           clocks = λ k. omega (arith, clocks-after p s.clocks x k, h.clocks k);

@@ -1,2 +1,3 @@
 -- About the code alone.
 pub mod Stand
+pub mod Within

@@ -11,9 +11,8 @@ use Rattle.pattern.specs.InUse.{place_at, edge_at}
 use Rattle.pattern.specs.Kinds.{is_end}
 use Rattle.pattern.specs.Clocks.{Clocks, clock_at, guards_hold}
 use Rattle.pattern.specs.Distance.{place_worth}
-use Rattle.pattern.specs.Sound.{sound_of}
 use Rattle.price_runs.specs.declared.Stand.{Stand}
-use Rattle.record.specs.Record.{Book, record_sound}
+use Rattle.record.specs.Record.{Book}
 use Rattle.record.specs.Joined.{agrees, joined}
 use Rattle.record.specs.Run.{Step, can_step, clocks_after}
 use Rattle.price_stays.specs.Walk.{Stands, ahead}
@@ -43,10 +42,8 @@ unfoldable pub outcome : Pattern → (durations : List ℕ) → (values : List �
 outcome p ds vs None xs = none
 outcome p ds vs (Some s) xs = score_from p (ahead p.channels ds vs s.piece s.used) s.worth s.place s.clocks xs
 
--- What holds between the steps. No clock is past the ticks so far, and each tick so far brought at most one observation.
+-- What holds between the steps of a course. No clock is past the ticks so far, and each tick so far brought at most one observation.
 pub record Held (p : Pattern) (durations : List ℕ) (values : List ℤ) (s : Stand) : Type 0 where
-  pub sound : sound_of p ≡ true
-  pub kept : record_sound p.channels durations values ≡ true
   pub stands : Stands durations s.piece s.used
   pub left : s.left ≡ length (ahead p.channels durations values s.piece s.used)
   pub clocks : (k : ℕ) → clock_at s.clocks k + s.left ≤ 2_147_483_647

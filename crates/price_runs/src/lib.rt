@@ -1,10 +1,11 @@
 // A run, step by step.
 #![tactic(auto)]
 
-ghost use Rattle.std.specs.Prelude.{◌≡◌};
+ghost use Rattle.std.specs.Prelude.{◌≡◌, true};
 ghost use Rattle.pattern.specs.Clocks.{later};
-ghost use Rattle.record.specs.Run.{steps_of};
-ghost use Rattle.price_runs.specs.Stand.{Room, can_leave, Held, Stepped, Ran};
+ghost use Rattle.pattern.specs.Sound.{sound_of};
+ghost use Rattle.record.specs.Record.{record_sound};
+ghost use Rattle.price_runs.specs.Stand.{Room, can_leave};
 
 use pattern::clocks::{after_resets, guards_hold, in_use};
 use pattern::{Edge, Pattern};
@@ -23,6 +24,15 @@ pub struct Stand {
     pub worth: i64,
 }
 
+// What is the same throughout a run: a sound pattern, and a record that is sound for it.
+#[derive(Clone, Copy)]
+pub struct Course<'a> {
+    pub pattern: Pattern,
+    pub lent: Record<'a>,
+    pub ghost sound: { sound_of pattern ≡ true },
+    pub ghost kept: { record_sound pattern.channels lent.durations.now lent.values.now ≡ true },
+}
+
 // "every clock growing with it"
 fn grown(clocks: [u32; 4], stay: u32) -> [u32; 4]
     requires { Room clocks stay }
@@ -38,55 +48,58 @@ fn can_leave(e: Edge, place: u8, stay: u32, clocks: [u32; 4]) -> bool
     (e.from == place) & (1 <= stay) & guards_hold(e, clocks)
 }
 
-// One step, if it can be made and the record has its ticks. The guards are tried on the clocks as the stay leaves them; the
-// resets come after.
-// What is held is about the pattern and the lent record, too: no type of a stand alone could say it.
-fn step(p: Pattern, lent: Record, s: Stand, edge: u32, stay: u32) -> Option<Stand>
-    requires { Held p lent.durations.now lent.values.now s }
-    ensures { Stepped p lent.entry.durations.now lent.entry.values.now s
-        (record { edge = edge; stay = stay }) result }
-{
-    if s.left < stay {
-        return None;
-    }
-    let e = *in_use(&p.edges, p.edgecount).get(edge as usize)?;
-    let clocks = grown(s.clocks, stay);
-    if !can_leave(e, s.place, stay, clocks) {
-        return None;
-    }
-    let walk = Walk {
-        piece: s.piece,
-        used: s.used,
-        left: stay,
-        worth: s.worth,
-    };
-    let there = stay_in(
-        p.weighing,
-        p.places[usize::from(e.from)],
-        usize::from(p.channels),
-        lent,
-        walk,
-    );
-    let next = Stand {
-        place: e.to,
-        clocks: after_resets(e, clocks),
-        piece: there.piece,
-        used: there.used,
-        left: s.left - stay,
-        worth: there.worth,
-    };
-    Some(next)
-}
+impl<'a> Course<'a> {
+    ghost use Rattle.record.specs.Run.{steps_of};
+    ghost use Rattle.price_runs.specs.Within.{HeldIn, SteppedIn, RanIn};
 
-// Step after step, if each can be made.
-// Held as in `step`; edges and stays are two slices, as a host in C lends them.
-pub fn run(p: Pattern, lent: Record, s: Stand, edges: &[u32], stays: &[u32]) -> Option<Stand>
-    requires { Held p lent.durations.now lent.values.now s }
-    ensures { Ran p lent.entry.durations.now lent.entry.values.now s (steps_of edges.now stays.now) result }
-{
-    let mut at = s;
-    for (edge, stay) in edges.iter().zip(stays) {
-        at = step(p, lent, at, *edge, *stay)?;
+    // One step, if it can be made and the record has its ticks. The guards are tried on the clocks as the stay leaves them; the
+    // resets come after.
+    fn step(&self, s: Stand, edge: u32, stay: u32) -> Option<Stand>
+        requires { HeldIn self.now s }
+        ensures { SteppedIn self.now s (record { edge = edge; stay = stay }) result }
+    {
+        if s.left < stay {
+            return None;
+        }
+        let p = self.pattern;
+        let e = *in_use(&p.edges, p.edgecount).get(edge as usize)?;
+        let clocks = grown(s.clocks, stay);
+        if !can_leave(e, s.place, stay, clocks) {
+            return None;
+        }
+        let walk = Walk {
+            piece: s.piece,
+            used: s.used,
+            left: stay,
+            worth: s.worth,
+        };
+        let there = stay_in(
+            p.weighing,
+            p.places[usize::from(e.from)],
+            usize::from(p.channels),
+            self.lent,
+            walk,
+        );
+        let next = Stand {
+            place: e.to,
+            clocks: after_resets(e, clocks),
+            piece: there.piece,
+            used: there.used,
+            left: s.left - stay,
+            worth: there.worth,
+        };
+        Some(next)
     }
-    Some(at)
+
+    // Step after step, if each can be made. Edges and stays come as two slices: packed they would only be taken apart by `zip`.
+    pub fn run(&self, s: Stand, edges: &[u32], stays: &[u32]) -> Option<Stand>
+        requires { HeldIn self.now s }
+        ensures { RanIn self.now s (steps_of edges.now stays.now) result }
+    {
+        let mut at = s;
+        for (edge, stay) in edges.iter().zip(stays) {
+            at = self.step(at, *edge, *stay)?;
+        }
+        Some(at)
+    }
 }

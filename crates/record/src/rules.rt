@@ -3,6 +3,8 @@ ghost use Rattle.std.specs.Prelude.{◌≡◌, ◌≤◌, leb, length};
 ghost use Rattle.pattern.specs.Slots.{all};
 ghost use Rattle.record.specs.Record.{total, value_in_range, record_sound};
 
+use super::Record;
+
 // Whether each piece has at least 1 tick.
 pub fn all_last(durations: &[u32]) -> bool
     ensures { result ≡ all (leb 1) durations.now }
@@ -30,9 +32,10 @@ pub fn all_in_range(values: &[i32]) -> bool
     values.iter().all(|v| in_range(*v))
 }
 
-pub fn record_sound(channels: u8, durations: &[u32], values: &[i32]) -> bool
-    ensures { result ≡ record_sound channels durations.now values.now }
+pub fn record_sound(channels: u8, lent: Record) -> bool
+    ensures { result ≡ record_sound channels lent.entry.durations.now lent.entry.values.now }
 {
+    let Record { durations, values } = lent;
     durations.len() <= 4096
         && (all_last(durations)
             & (ticks(durations) <= 2147483647)

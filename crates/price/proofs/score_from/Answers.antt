@@ -40,6 +40,6 @@ returns c =
     let end = c.in_ok-end.end in
     let worth = read_back w64 end.worth (abs_fits_64 end.worth (2 ^ 60) (omega arith) (omega arith)) in
     let a = c.args in
-    let due : ◌≡◌ {A = Result ℤ Refusal} (Ok end.worth) (scored (outcome a.p a.lent.durations.now a.lent.values.now (Some a.s) (steps_of a.edges.now a.stays.now))) =
+    let due : ◌≡◌ {A = Result ℤ Refusal} (Ok end.worth) (scored (outcome a.course.now.pattern a.course.now.lent.durations.now a.course.now.lent.values.now (Some a.s) (steps_of a.edges.now a.stays.now))) =
     rw (← all_made c.run.ensures, c.in_ok-end.ensures.ok_part, ← c.kind_at.ensures, ← c.is_end.ensures, c.if-not-is_end.false) in
     ap (λ (z : ℤ). Ok z) worth ∙ due

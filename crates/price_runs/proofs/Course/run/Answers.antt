@@ -6,7 +6,7 @@ use Rattle.record.specs.Run.{Step, steps_of}
 use Rattle.price_runs.specs.declared.Stand.{Stand}
 use Rattle.price_runs.specs.Stand.{outcome, Stepped}
 use Rattle.price_runs.proofs.RunLaws.{steps-first, steps-none, no_outcome}
-use Rattle.price_runs.proofs.run.Goals as goal
+use Rattle.price_runs.proofs.Course.run.Goals as goal
 
 -- Once the first of the steps left is tried, what comes of the others is what came of all.
 goes-on : (p : Pattern) (ds : List ℕ) (vs : List ℤ) (s : Stand) (r : Option Stand) (e n : ℕ) → Stepped p ds vs s (record { edge = e; stay = n }) r
@@ -24,7 +24,7 @@ returns-in_err-at c =
     (record {
       held = tt;
       same = λ ys.
-          no_outcome a.p _ _ ys _
+          no_outcome a.self.now.pattern _ _ ys _
           ∙ goes-on _ _ _ _ _ _ _ tried _ _ _ _ more ys
           ∙ c.loop-edge.invariant.same ys;
     })
@@ -43,6 +43,6 @@ returns c =
     record {
       held = c.loop-edge.invariant.held;
       same = λ ys.
-          ap (λ (xs : List Step). outcome a.p a.lent.durations.now a.lent.values.now (Some c.loop-edge.at) (xs ++ ys)) (sym (steps-none _ _ none))
+          ap (λ (xs : List Step). outcome a.self.now.pattern a.self.now.lent.durations.now a.self.now.lent.values.now (Some c.loop-edge.at) (xs ++ ys)) (sym (steps-none _ _ none))
           ∙ c.loop-edge.invariant.same ys;
     }
