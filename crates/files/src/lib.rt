@@ -124,27 +124,23 @@ pub fn write_out(rt: &HostRuntime, bytes: &[u8]) -> Result<(), Unwritten> {
     let mut rest = bytes;
     for _ in 0..TURNS {
         if rest.is_empty() {
-            break;
+            return Ok(());
         }
         match rt.stdout().write(rest) {
             Ok(0) => {
                 let _ = eprintln!(rt; "standard output: nothing is taken");
-                break;
+                return Err(Unwritten::Failed);
             }
             Ok(got) => rest = &rest[got..],
             Err(error) if is_passing(&error) => {}
             Err(error) if error.kind() == ErrorKind::BrokenPipe => return Err(Unwritten::Closed),
             Err(error) => {
                 fail(rt, "standard output", &error);
-                break;
+                return Err(Unwritten::Failed);
             }
         }
     }
-    if rest.is_empty() {
-        Ok(())
-    } else {
-        Err(Unwritten::Failed)
-    }
+    Err(Unwritten::Failed)
 }
 
 // What stands behind standard output, if it is a file that can be opened once more.
@@ -152,9 +148,8 @@ const OUTPUT: &str = "/proc/self/fd/1";
 
 // The file behind standard output is to be kept as it was written. Another kind of output keeps nothing.
 fn sync_out(rt: &HostRuntime) -> io::Result<()> {
-    match fs::metadata(rt, OUTPUT) {
-        Ok(about) if about.is_file() => {}
-        _ => return Ok(()),
+    if !fs::metadata(rt, OUTPUT).is_ok_and(|about| about.is_file()) {
+        return Ok(());
     }
     match OpenOptions::new().append(true).open(rt, OUTPUT) {
         Ok(file) => file.sync_data(),
@@ -173,9 +168,10 @@ fn is_unasked(error: &io::Error) -> bool {
 // The end of the output. Some file systems tell only here that a write failed. A signal is no such failure, and neither is a
 // file system that cannot be asked.
 pub fn close_out(rt: &HostRuntime) {
-    if let Err(error) = sync_out(rt) {
-        if !is_passing(&error) && !is_unasked(&error) {
-            fail(rt, "standard output", &error);
-        }
+    if let Err(error) = sync_out(rt)
+        && !is_passing(&error)
+        && !is_unasked(&error)
+    {
+        fail(rt, "standard output", &error);
     }
 }
