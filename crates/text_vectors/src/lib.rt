@@ -10,33 +10,12 @@ ghost use Rattle.std.specs.Prelude.{◌<◌, ◌≤◌, ◌+◌, ◌≡◌, leng
 use files::read_file;
 use std::fs::File;
 use std::io;
+use text_put::Writer;
 
-// The text that the lines of the table make, of as many bytes as there is room for.
-// An array and a length, since nothing is allocated.
-#[derive(Drop)]
-struct Text {
-    room: [u8; 65536],
-    length: usize,
-    ghost within: { length ≤ 65536 },
-}
-
-impl Text {
-    fn bytes(&self) -> &[u8] {
-        &self.room[..self.length]
-    }
-
-    // What of the part there is room for.
-    fn add(&mut self, part: &[u8]) {
-        let free = &mut self.room[self.length..];
-        let n = part.len().min(free.len());
-        free[..n].copy_from_slice(&part[..n]);
-        self.length += n;
-    }
-
-    fn add_times(&mut self, part: &[u8], times: u64) {
-        for _ in 0..times {
-            self.add(part);
-        }
+// Puts a part into the text several times, as far as there is room.
+fn put_times(text: &mut Writer, part: &[u8], times: u64) {
+    for _ in 0..times {
+        text.word(part);
     }
 }
 
@@ -52,7 +31,7 @@ fn other(n: u64) -> u64 {
     n.checked_sub(1).unwrap_or(1)
 }
 
-// A further digit of a number, as long as it fits.
+// A further digit of a number; one above 10^18 takes none.
 fn with_digit(value: u64, digit: u8) -> u64 {
     match digit {
         b'0'..=b'9' if value <= 1_000_000_000_000_000_000 => value * 10 + u64::from(digit - b'0'),
@@ -60,7 +39,7 @@ fn with_digit(value: u64, digit: u8) -> u64 {
     }
 }
 
-// The number at the begin of a text, if a digit stands there, and what is behind it.
+// The number at the front of a text, if a digit stands there, and what is behind it.
 pub fn numeral(text: &[u8]) -> Option<(u64, &[u8])> {
     let n = text.iter().take_while(|b| b.is_ascii_digit()).count();
     let (digits, rest) = text.split_at(n);
@@ -104,21 +83,23 @@ pub fn print(rt: &HostRuntime, ok: bool, line: &[u8]) -> io::Result<()> {
 }
 
 // One line of the table: a number or none, a mark and the rest.
-fn look(rt: &HostRuntime, line: &[u8], text: &mut Text, tally: &mut Tally) -> io::Result<()> {
+fn look(rt: &HostRuntime, line: &[u8], text: &mut Writer, tally: &mut Tally) -> io::Result<()> {
     let (n, marked) = numeral(line).unwrap_or((1, line));
     let Some((mark, rest)) = marked.split_first() else {
         return Ok(());
     };
     match *mark {
-        b'|' => text.add_times(rest, n),
-        b':' => text.add_times(rest.split_last().map_or(rest, |(_, front)| front), n),
-        b'.' => text.add(&[u8::try_from(n).unwrap_or(0)]),
+        b'|' => put_times(text, rest, n),
+        b':' => put_times(text, rest.split_last().map_or(rest, |(_, front)| front), n),
+        b'.' => text.byte(u8::try_from(n).unwrap_or(0)),
         b'=' => {
             // The text is whole.
             let cells = numeral(rest).map_or(0, |(cells, _)| cells);
-            let ok = judged(text.bytes(), n, cells);
+            let length = text.at;
+            let whole = text.text.get(..length);
+            let ok = whole.is_some_and(|whole| judged(whole, n, cells));
             print(rt, ok, line)?;
-            text.length = 0;
+            text.at = 0;
             if ok {
                 tally.right = tally.right.saturating_add(1);
             } else {
@@ -132,10 +113,9 @@ fn look(rt: &HostRuntime, line: &[u8], text: &mut Text, tally: &mut Tally) -> io
 
 // All lines of the table.
 fn answer_all(rt: &HostRuntime, table: &[u8]) -> io::Result<Tally> {
-    let mut text = Text {
-        room: [0; 65536],
-        length: 0,
-    };
+    // The text that the lines make, of as many bytes as there is room for.
+    let mut room = [0; 65536];
+    let mut text = Writer::new(&mut room);
     let mut tally = Tally { right: 0, wrong: 0 };
     for line in table.split_inclusive(|b| *b == b'\n') {
         look(rt, line, &mut text, &mut tally)?;

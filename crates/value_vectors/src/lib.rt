@@ -5,7 +5,7 @@
 pub mod values;
 
 use files::read_file;
-use pattern::{Guard, Kind, NO_PATTERN, Pattern, Sign, Test};
+use pattern::{Guard, Kind, NO_PATTERN, Pattern, Refusal, Sign, Test};
 use std::io;
 use text_vectors::writes::{fits, leaves};
 use text_vectors::{numeral, print, split_line};
@@ -28,15 +28,15 @@ fn numbers(row: &[u8]) -> [u64; 6] {
     numbers
 }
 
-// One conversion each, here and below: a generic one would name the type at each call.
-fn byte(n: u64) -> u8 {
-    u8::try_from(n).unwrap_or(0)
+// A number as a field takes it; 0 if it is too large.
+fn narrow<T: TryFrom<u64> + Default>(n: u64) -> T
+where
+    <T as TryFrom<u64>>::Error: Drop,
+{
+    T::try_from(n).unwrap_or_default()
 }
 
-fn short(n: u64) -> u16 {
-    u16::try_from(n).unwrap_or(0)
-}
-
+// A test's bound, below the limit of the table; another number is 0, as the program answered it.
 fn bound(n: u64) -> i32 {
     match i32::try_from(n) {
         Ok(bound) if bound < 2_000_000_000 => bound,
@@ -44,7 +44,7 @@ fn bound(n: u64) -> i32 {
     }
 }
 
-// The bounds below 0 that there are in the table.
+// The bounds below 0 that there are in the table; another number is 0, as the program answered it.
 fn below_zero(n: u64) -> i32 {
     match n {
         1 => -1,
@@ -54,7 +54,8 @@ fn below_zero(n: u64) -> i32 {
     }
 }
 
-// A kind's number in the table, and a sign's below: no TryFrom, since every number says one.
+// A kind's number in the table, and a sign's below: no From, since neither type is of this crate, and no TryFrom, since every
+// number says one.
 fn kind(n: u64) -> Kind {
     match n {
         0 => Kind::Start,
@@ -102,15 +103,15 @@ fn altered(mark: u8, numbers: [u64; 6]) -> Pattern {
     let (first, second) = (a as usize, b as usize);
     let test = |band, bound, high| Test {
         sign: sign(c),
-        channel: byte(d),
+        channel: narrow(d),
         band,
         bound,
         high,
     };
     match mark {
-        b'h' => with_header(bare(), byte(a), byte(b), short(c), short(d)),
-        b'c' => with_counts(bare(), byte(a), byte(b)),
-        b'p' => with_place(usual(), first, kind(b), byte(c)),
+        b'h' => with_header(bare(), narrow(a), narrow(b), narrow(c), narrow(d)),
+        b'c' => with_counts(bare(), narrow(a), narrow(b)),
+        b'p' => with_place(usual(), first, kind(b), narrow(c)),
         b't' => with_test(usual(), first, second, test(false, bound(e), 0)),
         b'm' => with_test(usual(), first, second, test(false, below_zero(e), 0)),
         b'w' => with_test(usual(), first, second, test(false, bound(e), bound(f))),
@@ -121,12 +122,12 @@ fn altered(mark: u8, numbers: [u64; 6]) -> Pattern {
             second,
             test(true, below_zero(e), below_zero(f)),
         ),
-        b'e' => with_edge(usual(), first, byte(b), byte(c), byte(d)),
+        b'e' => with_edge(usual(), first, narrow(b), narrow(c), narrow(d)),
         b'g' => {
             let guard = Guard {
                 sign: sign(c),
-                clock: byte(d),
-                bound: short(e),
+                clock: narrow(d),
+                bound: narrow(e),
             };
             with_guard(usual(), first, second, guard)
         }
@@ -139,16 +140,16 @@ fn altered(mark: u8, numbers: [u64; 6]) -> Pattern {
 // a sound value is 6.
 fn judged(p: Pattern, due: u64) -> bool {
     match pattern::cells(p) {
-        Ok(_) => due == 0 && fits(p) && leaves(b"", p, 0, Err(6)),
+        Ok(_) => due == 0 && fits(p) && leaves(b"", p, 0, Err(Refusal::OutputTooShort)),
         Err(why) => {
             due == u64::from(u8::from(why))
-                && leaves(b"", p, 8192, Err(due))
-                && leaves(b"", p, 0, Err(due))
+                && leaves(b"", p, 8192, Err(why))
+                && leaves(b"", p, 0, Err(why))
         }
     }
 }
 
-// A row, which is at the begin of the table's rest; a line that begins with no number is none.
+// A row, which is at the front of the table's rest; a line that begins with no number is none.
 fn look(rt: &HostRuntime, line: &[u8], table: &[u8]) -> io::Result<()> {
     let Some((due, rest)) = numeral(table) else {
         return Ok(());
@@ -160,7 +161,7 @@ fn look(rt: &HostRuntime, line: &[u8], table: &[u8]) -> io::Result<()> {
     print(rt, judged(value, due), line)
 }
 
-// No `for` over the lines: a row's numbers are looked for in all that follows it, as ever.
+// No `for` over the lines: a row that lacks numbers reads on in the next line, and the program answers as it did.
 fn answer_rows(rt: &HostRuntime, table: &[u8]) -> io::Result<()> {
     let mut rest = table;
     while !rest.is_empty() {
