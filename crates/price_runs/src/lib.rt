@@ -25,6 +25,7 @@ pub struct Stand {
 }
 
 // What is the same throughout a run: a sound pattern, and a record that is sound for it.
+// No `SoundPattern` in it: each answer would go by that type's view first.
 #[derive(Clone, Copy)]
 pub struct Course<'a> {
     pub pattern: Pattern,
