@@ -25,7 +25,7 @@ pub struct Stand {
 }
 
 // What is the same throughout a run: a sound pattern, and a record that is sound for it.
-// No `SoundPattern` in it: each answer would go by that type's view first.
+// The pattern is no `SoundPattern`: each field would be read as `pattern.pattern`, and each proof go by that type's view first.
 #[derive(Clone, Copy)]
 pub struct Course<'a> {
     pub pattern: Pattern,
@@ -62,7 +62,7 @@ impl<'a> Course<'a> {
         if s.left < stay {
             return None;
         }
-        let p = self.pattern;
+        let p = &self.pattern;
         let e = *in_use(&p.edges, p.edgecount).get(edge as usize)?;
         let clocks = grown(s.clocks, stay);
         if !can_leave(e, s.place, stay, clocks) {
