@@ -16,6 +16,7 @@ pub fn held_state(entries: &[i64]) -> Option<State>
     }
     let ticks = u32::try_from(entries[0]).ok()?;
     let mut last = [0; 8];
+    // By index: `last.iter_mut().zip(&entries[1..9])` was tried, and its proof did not close: what it leaves in `last` is then unknown.
     for i in 0..8 {
         last[i] = i32::try_from(entries[i + 1]).ok()?;
     }
@@ -28,7 +29,5 @@ pub fn put_state(entries: &mut [i64], s: State)
     ensures { entries.new ≡ with_state s entries.old }
 {
     entries[0] = i64::from(s.ticks);
-    for i in 0..8 {
-        entries[i + 1] = i64::from(s.last[i]);
-    }
+    entries[1..9].copy_from_slice(&s.last.map(i64::from));
 }
