@@ -28,7 +28,7 @@ pub struct Run {
     pub score: i64,
 }
 
-// The best of the reports so far, where one of them is a run's.
+// The best of the reports so far, where one of them is a run's. A run as it is told has its begin, a choice its length.
 #[derive(Clone, Copy, Debug, PartialEq, Eq)]
 pub struct Choice {
     pub end: u32,
@@ -118,25 +118,25 @@ fn feed_some(
 // The first `count` ticks of a piece, in chunks. What is left decides each: steps of 64 would need the same `min`.
 fn feed_part(
     p: Plan,
-    record: Record,
+    lent: Record,
     piece: usize,
     count: u32,
     s: Search,
     first: &mut [i64],
     flags: &mut [u32],
 ) -> Search
-    requires { (Fit p record.durations.now record.values.now piece s first.old) × (Flagged (layout p) first.old flags.old)
-        × (piece < length record.durations.now) × (count ≤ get_or record.durations.now piece 0) }
-    ensures searched_to { SearchedTo p (book_in p record.entry)
-        (total (take piece record.entry.durations.now) + count) result }
+    requires { (Fit p lent.durations.now lent.values.now piece s first.old) × (Flagged (layout p) first.old flags.old)
+        × (piece < length lent.durations.now) × (count ≤ get_or lent.durations.now piece 0) }
+    ensures searched_to { SearchedTo p (book_in p lent.entry)
+        (total (take piece lent.entry.durations.now) + count) result }
     ensures first_after { first.new
-        ≡ written p (table_to p (book_in p record.entry)
-        (total (take piece record.entry.durations.now) + count)) first.old }
+        ≡ written p (table_to p (book_in p lent.entry)
+        (total (take piece lent.entry.durations.now) + count)) first.old }
     ensures flagged { Flagged (layout p) first.new flags.new }
 {
     let channels = usize::from(p.pattern.channels);
     let at = piece * channels;
-    let sample = &record.values[at..at + channels];
+    let sample = &lent.values[at..at + channels];
     let mut left = count;
     let mut search = s;
     while 0 < left {
@@ -162,40 +162,40 @@ fn pass_rest(s: Search, rest: u32) -> Search
 // One piece. All its ticks but the first are alike, so after high + 1 ticks the table stands still, and the rest passes.
 fn feed_whole(
     p: Plan,
-    record: Record,
+    lent: Record,
     piece: usize,
     s: Search,
     first: &mut [i64],
     flags: &mut [u32],
 ) -> Search
-    requires { (Fit p record.durations.now record.values.now piece s first.old) × (Flagged (layout p) first.old flags.old)
-        × (piece < length record.durations.now) }
-    ensures searched_to { SearchedTo p (book_in p record.entry)
-        (total (take (piece + 1) record.entry.durations.now)) result }
+    requires { (Fit p lent.durations.now lent.values.now piece s first.old) × (Flagged (layout p) first.old flags.old)
+        × (piece < length lent.durations.now) }
+    ensures searched_to { SearchedTo p (book_in p lent.entry)
+        (total (take (piece + 1) lent.entry.durations.now)) result }
     ensures first_after { first.new
-        ≡ written p (table_to p (book_in p record.entry)
-        (total (take (piece + 1) record.entry.durations.now))) first.old }
+        ≡ written p (table_to p (book_in p lent.entry)
+        (total (take (piece + 1) lent.entry.durations.now))) first.old }
     ensures flagged { Flagged (layout p) first.new flags.new }
 {
-    let duration = record.durations[piece];
+    let duration = lent.durations[piece];
     let moved = duration.min(u32::from(p.pattern.high) + 1);
-    let search = feed_part(p, record, piece, moved, s, first, flags);
+    let search = feed_part(p, lent, piece, moved, s, first, flags);
     pass_rest(search, duration - moved)
 }
 
-// All pieces.
-fn feed_all(p: Plan, record: Record, s: Search, first: &mut [i64], flags: &mut [u32]) -> Search
-    requires { (Fit p record.durations.now record.values.now 0 s first.old) × (Flagged (layout p) first.old flags.old) }
-    ensures searched_to { SearchedTo p (book_in p record.entry)
-        (total record.entry.durations.now) result }
+// All pieces. By the piece's number, as the definition `Fit` has it.
+fn feed_all(p: Plan, lent: Record, s: Search, first: &mut [i64], flags: &mut [u32]) -> Search
+    requires { (Fit p lent.durations.now lent.values.now 0 s first.old) × (Flagged (layout p) first.old flags.old) }
+    ensures searched_to { SearchedTo p (book_in p lent.entry)
+        (total lent.entry.durations.now) result }
     ensures first_after { first.new
-        ≡ written p (table_to p (book_in p record.entry)
-        (total record.entry.durations.now)) first.old }
+        ≡ written p (table_to p (book_in p lent.entry)
+        (total lent.entry.durations.now)) first.old }
     ensures flagged { Flagged (layout p) first.new flags.new }
 {
     let mut search = s;
-    for piece in 0..record.durations.len() {
-        search = feed_whole(p, record, piece, search, first, flags);
+    for piece in 0..lent.durations.len() {
+        search = feed_whole(p, lent, piece, search, first, flags);
     }
     search
 }
@@ -234,8 +234,8 @@ pub fn best(
         ≡ best_second p durations.now values.now first.old second.old }
 {
     let plan = Plan::new(p)?;
-    let record = Record { durations, values };
-    if !record_sound(p.channels, record) {
+    let lent = Record { durations, values };
+    if !record_sound(p.channels, lent) {
         return Err(Refusal::BrokenRecord);
     }
     let state = open(p, first, second)?;
@@ -245,6 +245,6 @@ pub fn best(
         state,
         choice: None,
     };
-    let end = feed_all(plan, record, start, first, &mut flags);
+    let end = feed_all(plan, lent, start, first, &mut flags);
     Ok(told(end.choice))
 }

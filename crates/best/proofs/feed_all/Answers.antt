@@ -22,8 +22,8 @@ loop-piece-preserved c =
     let a = c.args in
     let l = c.loop-piece in
     let o = c.feed_whole-search.ensures in
-    let U = table_to a.p (book_of a.p.channels a.record.durations.now a.record.values.now) (total (take (l.piece + 1) a.record.durations.now)) in (
-      fit_on a.p a.record.durations.now a.record.values.now l.piece (l.piece + 1) l.search c.feed_whole-search.result l.first _ l.invariant.0 o.searched_to o.first_after,
+    let U = table_to a.p (book_of a.p.channels a.lent.durations.now a.lent.values.now) (total (take (l.piece + 1) a.lent.durations.now)) in (
+      fit_on a.p a.lent.durations.now a.lent.values.now l.piece (l.piece + 1) l.search c.feed_whole-search.result l.first _ l.invariant.0 o.searched_to o.first_after,
       o.first_after ∙ ap (written a.p U) l.invariant.1 ∙ written_again a.p U _ a.first.now,
       o.flagged,
     )
@@ -37,8 +37,8 @@ pub returns : goal.returns
 returns c =
     let a = c.args in
     let l = c.loop-piece in
-    let B = book_of a.p.channels a.record.durations.now a.record.values.now in
-    let e : total (take l.piece a.record.durations.now) ≡ total a.record.durations.now = ap total (take_all l.piece a.record.durations.now (omega arith)) in
+    let B = book_of a.p.channels a.lent.durations.now a.lent.values.now in
+    let e : total (take l.piece a.lent.durations.now) ≡ total a.lent.durations.now = ap total (take_all l.piece a.lent.durations.now (omega arith)) in
     record {
       searched_to = subst (λ (n : ℕ). SearchedTo a.p B n l.search) e l.invariant.0.searched;
       first_after = l.invariant.1 ∙ ap (λ (n : ℕ). written a.p (table_to a.p B n) a.first.now) e;

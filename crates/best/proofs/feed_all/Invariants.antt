@@ -9,6 +9,6 @@ use Rattle.best.proofs.feed_all.Given as goal
 
 abbrev pub invariant-loop-piece : goal.invariant-loop-piece
 invariant-loop-piece l =
-    Fit l.p l.record.durations.now l.record.values.now l.piece l.search l.first
-    × (l.first ≡ written l.p (table_to l.p (book_of l.p.channels l.record.durations.now l.record.values.now) (total (take l.piece l.record.durations.now))) l.initial.first)
+    Fit l.p l.lent.durations.now l.lent.values.now l.piece l.search l.first
+    × (l.first ≡ written l.p (table_to l.p (book_of l.p.channels l.lent.durations.now l.lent.values.now) (total (take l.piece l.lent.durations.now))) l.initial.first)
     × Flagged (layout l.p) l.first l.flags

@@ -11,8 +11,8 @@ use Rattle.best.proofs.feed_part.Given as goal
 abbrev pub invariant-loop-left : goal.invariant-loop-left
 invariant-loop-left l =
     (l.left ≤ l.count)
-    × SearchedTo l.p (book_of l.p.channels l.record.durations.now l.record.values.now) (total (take l.piece l.record.durations.now) + (l.count - l.left)) l.search
-    × (l.first ≡ written l.p (table_to l.p (book_of l.p.channels l.record.durations.now l.record.values.now) (total (take l.piece l.record.durations.now) + (l.count - l.left))) l.initial.first)
+    × SearchedTo l.p (book_of l.p.channels l.lent.durations.now l.lent.values.now) (total (take l.piece l.lent.durations.now) + (l.count - l.left)) l.search
+    × (l.first ≡ written l.p (table_to l.p (book_of l.p.channels l.lent.durations.now l.lent.values.now) (total (take l.piece l.lent.durations.now) + (l.count - l.left))) l.initial.first)
     × Flagged (layout l.p) l.first l.flags
 
 abbrev pub decreases-loop-left : goal.decreases-loop-left
