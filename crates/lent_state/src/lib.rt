@@ -28,7 +28,7 @@ pub fn open(
     Ok(())
 }
 
-// Feeding a piece: 7, 12, 11, 8, 13, 14, 6; else a score and a length for each tick. The tables and slices come one by one, as there.
+// Feeding a piece: 7, 12, 11, 8, 13, 14, 6; else a score and a length for each tick. The tables and slices come one by one, as in `open`.
 pub fn feed(
     state: &mut State,
     p: Pattern,
