@@ -52,6 +52,7 @@ pub extern "C" fn monitor_open(
     ensures second_after { second.new ≡ opened_second (read_of text.now)
         state.old first.old second.old }
 {
+    // By `match`: `and_then` was tried, and the proof did not close, since what its closure leaves behind a captured `&mut` has no name.
     match read(text) {
         Ok(p) => answer_number(&open_pattern(p, state, first, second)),
         Err(cause) => cause_number(cause),
@@ -88,6 +89,7 @@ pub extern "C" fn monitor_feed(
         ≡ fed_lengths (read_of text.now) state.old first.old second.old
         (call_of duration values.now scores.old lengths.old) }
 {
+    // By `match`: `and_then` was tried, and the proof did not close, since what its closure leaves behind a captured `&mut` has no name.
     match read(text) {
         Ok(p) => answer_number(&feed_pattern(
             p, state, first, second, duration, values, scores, lengths,
@@ -109,10 +111,7 @@ pub extern "C" fn run_price(
     ensures { result ≡ run_price (read_of text.now) durations.now values.now begin
         edges.now stays.now }
 {
-    match read(text) {
-        Ok(p) => RunPrice::from(price(p, durations, values, begin, edges, stays)),
-        Err(cause) => RunPrice::from(Err(cause)),
-    }
+    RunPrice::from(read(text).and_then(|p| price(p, durations, values, begin, edges, stays)))
 }
 
 // The best of a record: 1 to 5, then 8, 11.
@@ -131,6 +130,7 @@ pub extern "C" fn record_best(
     ensures second_after { second.new ≡ record_second (read_of text.now) durations.now values.now
         first.old second.old }
 {
+    // By `match`: `and_then` was tried, and the proof did not close, since what its closure leaves behind a captured `&mut` has no name.
     match read(text) {
         Ok(p) => RecordBest::from(best(p, durations, values, first, second)),
         Err(cause) => RecordBest::from(Err(cause)),
