@@ -44,8 +44,8 @@ pub fn feed_rows(
         (feed_lengths p s.state first.old second.old (chunk_of ticks values.now)) ticks)
         ≤ 64 * ticks }
 {
-    let mut scores = [0i64; 64];
-    let mut lengths = [0u32; 64];
+    let mut scores = [0; 64];
+    let mut lengths = [0; 64];
     let fed = feed(
         s.state,
         p,
