@@ -32,6 +32,7 @@ pub struct Cursor {
     pub values: [i32; 8],
 }
 
+// All that the next step goes by: what it prints, and of what.
 #[derive(Clone, Copy)]
 pub struct Watch {
     pub stage: Stage,
