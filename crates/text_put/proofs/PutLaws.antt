@@ -1,5 +1,5 @@
 -- Bytes put one after the other.
-use Prim.Native.Nat.{ℕ, zero, suc, ◌+◌, ◌-◌, ◌%◌, ◌^◌, ◌≤◌, ◌<◌, min}
+use Prim.Native.Nat.{ℕ, zero, suc, ◌+◌, ◌-◌, ◌/◌, ◌%◌, ◌≤◌, ◌<◌, min}
 use mathlib.Core.Path.{◌≡◌, refl, sym, ap, ◌∙◌}
 use mathlib.Core.List.{List, [], ◌∷◌, ◌++◌, append_assoc, append-nil}
 use native.Mathlib.Omega.{arith}
@@ -11,9 +11,7 @@ use Rattle.pattern.proofs.ListLaws.{take_more}
 use Rattle.pattern_text.specs.Bytes.{Bytes}
 use Rattle.pattern_text.specs.Form.{write_many}
 use Rattle.pattern_text.specs.Numeral.{decimal}
-use Rattle.pattern_text.proofs.NumeralLaws.{decimal-small, decimal_large, by_digits}
-use Rattle.std.specs.Fmt.{decimal as printed}
-use Rattle.std.proofs.lemmas.Fmt.{decimal_digit, decimal_step}
+use Rattle.pattern_text.proofs.NumeralLaws.{decimal-small, decimal_large}
 use Rattle.std.specs.Borrow.{MutBor}
 use Rattle.text_put.specs.declared.Writer.{Writer}
 use Rattle.text_put.specs.Put.{fitting, put_at, Put, Begins, Puts}
@@ -142,8 +140,9 @@ module _ {A : Type 0} (f : A → Bytes) where
   pub many-next : {a b c : Writer} (xs : List A) (i : ℕ) (d : A) → i < length xs → Puts a b (write_many f (take i xs)) → Puts b c (f (get_or xs i d)) → Puts a c (write_many f (take (i + 1) xs))
   many-next xs i d h p q = rw (take_more i xs d h, many_snoc) (puts_then p q)
 
--- ---- a number: its digits are std's
-pub decimal_is : (n : ℕ) → n < 2 ^ 64 → decimal n ≡ printed n
-decimal_is = by_digits (λ n. n < 2 ^ 64 → decimal n ≡ printed n)
-    (λ n h l. decimal-small n h ∙ sym (decimal_digit n h))
-    (λ n h k l. decimal_large n h ∙ ap (λ (b : Bytes). b ++ ((48 + n % 10) ∷ [])) (k (omega arith)) ∙ sym (decimal_step n h l))
+-- ---- a number
+pub put_last : {a b : Writer} (k : ℕ) → k < 10 → Puts a b ((48 + k % 10) ∷ []) → Puts a b (decimal k)
+put_last k h p = let e : k % 10 ≡ k = omega arith in rw decimal-small (rw e at p)
+
+pub put_more : {a b c : Writer} (k : ℕ) → 10 ≤ k → Puts a b (decimal (k / 10)) → Puts b c ((48 + k % 10) ∷ []) → Puts a c (decimal k)
+put_more k h p q = rw decimal_large (puts_then p q)

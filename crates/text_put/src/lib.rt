@@ -7,8 +7,6 @@ ghost use Rattle.pattern_text.specs.Form.{write_ℤ};
 ghost use Rattle.pattern_text.specs.Numeral.{decimal};
 ghost use Rattle.text_put.specs.Put.{Puts, Begins};
 
-use itoa::Buffer;
-
 // A lent buffer, and the position where the next byte goes.
 #[derive(Drop)]
 pub struct Writer<'a> {
@@ -44,11 +42,17 @@ impl<'a> Writer<'a> {
         }
     }
 
-    // A number in base ten.
+    // A number in base ten: its last digit, after those of its tenth. Not by std's `write!`, which does not promise which
+    // bytes it puts.
     pub fn number(&mut self, number: u64)
         ensures { Puts self.old self.new (decimal number) }
     {
-        self.word(Buffer::new().format(number).as_bytes());
+        // Whether digits stand before the last one.
+        let more = number >= 10;
+        if more {
+            self.number(number / 10);
+        }
+        self.byte(b'0' + (number % 10) as u8);
     }
 
     // A number that may be negative.
