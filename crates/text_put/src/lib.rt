@@ -43,7 +43,7 @@ impl<'a> Writer<'a> {
     }
 
     // A number in base ten: its last digit, after those of its tenth. Not by std's `write!`, which does not promise which
-    // bytes it puts.
+    // bytes it puts, nor by the kit's `itoa` (tried): one more library's statements would then be taken on trust.
     pub fn number(&mut self, number: u64)
         ensures { Puts self.old self.new (decimal number) }
     {
