@@ -105,7 +105,7 @@ pub fn steps_of(edges: [Edge; 32], count: usize) -> [Step; 32]
     steps
 }
 
-// A clock, unless it is reset.
+// A clock, unless it is reset: by a flag, as the definition `kept_by` has it.
 fn kept_by(reset: bool, clock: usize) -> usize
     ensures { result ≡ kept_by reset clock }
 {
