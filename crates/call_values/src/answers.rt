@@ -1,9 +1,8 @@
 // The refusals in answers; 0 is for none.
+use host_told::answer_number;
 use pattern::Refusal;
 
-pub fn answer<T: Copy>(answered: Result<T, Refusal>) -> u64 {
-    match answered {
-        Ok(_) => 0,
-        Err(why) => u64::from(u8::from(why)),
-    }
+// As wide as `judge` takes it.
+pub fn answer<T>(answered: &Result<T, Refusal>) -> u64 {
+    u64::from(answer_number(answered))
 }

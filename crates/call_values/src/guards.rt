@@ -18,10 +18,10 @@ const AT_MOST_ONE: &[u8] = b"(pattern margin 1 1 1 4)\n\
 
 // 0 if the edge is taken after this stay, or the refusal.
 fn price_answer(p: Pattern, stay: u32) -> u64 {
-    answer(price(p, &[5], &[10], 0, &[0], &[stay]))
+    answer(&price(p, &[5], &[10], 0, &[0], &[stay]))
 }
 
-// The end of the best run of 5 ticks, 0 if there is none.
+// The end of the best run of 5 ticks: 0 if there is none, 99 if the search is refused.
 fn best_end(p: Pattern) -> u64 {
     match best(p, &[5], &[10], &mut [0; 30], &mut [0; 30]) {
         Ok(Some(run)) => u64::from(run.end),

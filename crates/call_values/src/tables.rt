@@ -18,12 +18,12 @@ fn tried(
     let p = document();
     println!(rt; "{label}")?;
     let opened = open(p, first, second);
-    judge(rt, b"  open", answer(opened), due)?;
+    judge(rt, b"  open", answer(&opened), due)?;
     let state = State::no_ticks();
     let fed = feed(state, p, first, second, 1, &[10], &mut [0], &mut [0]);
-    judge(rt, b"  feed", answer(fed), due)?;
+    judge(rt, b"  feed", answer(&fed), due)?;
     let found = best(p, &[2], &[10], first, second);
-    judge(rt, b"  best", answer(found), due)
+    judge(rt, b"  best", answer(&found), due)
 }
 
 pub fn run(rt: &HostRuntime) -> io::Result<()> {

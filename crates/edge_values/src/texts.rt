@@ -5,7 +5,7 @@ use pattern_read::read;
 use std::io;
 
 fn tried(rt: &HostRuntime, label: &[u8], text: &[u8], due: u64) -> io::Result<()> {
-    judge(rt, label, answer(read(text)), due)
+    judge(rt, label, answer(&read(text)), due)
 }
 
 fn bounds(rt: &HostRuntime) -> io::Result<()> {

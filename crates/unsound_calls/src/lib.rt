@@ -21,7 +21,7 @@ fn judge_kept(rt: &HostRuntime, kept: bool) -> io::Result<()> {
 // A piece of 0 ticks, and a begin outside.
 fn priced(rt: &HostRuntime, p: Pattern) -> io::Result<()> {
     let price = price(p, &[2, 0], &[10, 40], 9, &[0, 1], &[2, 1]);
-    judge(rt, b"  price", answer(price), 7)
+    judge(rt, b"  price", answer(&price), 7)
 }
 
 fn opened(rt: &HostRuntime, p: Pattern) -> io::Result<()> {
@@ -33,7 +33,7 @@ fn opened(rt: &HostRuntime, p: Pattern) -> io::Result<()> {
     };
     let mut state = used;
     let opened = open(&mut state, p, &mut first, &mut second);
-    judge(rt, b"  open", answer(opened), 7)?;
+    judge(rt, b"  open", answer(&opened), 7)?;
     judge_kept(rt, state == used && first == [5, MARK] && second == [6, 7])
 }
 
@@ -59,7 +59,7 @@ fn fed(rt: &HostRuntime, p: Pattern) -> io::Result<()> {
         &mut scores,
         &mut lengths,
     );
-    judge(rt, b"  feed", answer(fed), 7)?;
+    judge(rt, b"  feed", answer(&fed), 7)?;
     judge_kept(
         rt,
         state == full
@@ -74,7 +74,7 @@ fn best_told(rt: &HostRuntime, p: Pattern) -> io::Result<()> {
     let mut first = [5, MARK];
     let mut second = [6, 7];
     let found = best(p, &[0], &[10], &mut first, &mut second);
-    judge(rt, b"  best", answer(found), 7)?;
+    judge(rt, b"  best", answer(&found), 7)?;
     judge_kept(rt, first == [5, MARK] && second == [6, 7])
 }
 
