@@ -46,6 +46,7 @@ fn put_report(out: &mut Writer, end: u32, score: i64, length: u32)
     ensures put { Puts out.old out.new (row_for end score length) }
     ensures length_bound { size (row_for end score length) ≤ 64 }
 {
+    // Goals are named after a test: so the edit ends_without_a_run_have_lines leaves their names. Without answers no proof closed.
     let has_run = length != 0;
     if has_run {
         put_row(out, end, end - length, score);
