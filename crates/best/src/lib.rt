@@ -28,7 +28,8 @@ pub struct Run {
     pub score: i64,
 }
 
-// The best of the reports so far, where one of them is a run's. A run as it is told has its begin, a choice its length.
+// The best of the reports so far, where one of them is a run's. A choice has its length: that end - length
+// does not wrap is known only where it is told.
 #[derive(Clone, Copy, Debug, PartialEq, Eq)]
 pub struct Choice {
     pub end: u32,
@@ -57,7 +58,8 @@ fn choose(p: Pattern, so_far: Option<Choice>, end: u32, score: i64, length: u32)
 }
 
 // The first `count` reports of a stretch that begins after `ticks` ticks.
-// Both report slices have a place for each tick, as a host in C is told them.
+// Both report slices, of which the first `count` places are of these ticks: the definition `chosen_past` has it so, by which the search is
+// said.
 pub fn choose_all(
     p: Pattern,
     so_far: Option<Choice>,

@@ -10,8 +10,8 @@ use pattern::sound_pattern::SoundPattern;
 use std::marker::Model;
 
 // What the index needs: the greatest length, the places, a radix for each of four clocks; then the cells of a block
-// (one length, stage and place) and of a row (one length). In a clause it is its `Shape`, which definitions have of any
-// pattern.
+// (one length, stage and place) and of a row (one length). In a clause it is its `Shape`, as the name
+// `Layout` is in definitions, which speak of that of any pattern.
 #[derive(Clone, Copy)]
 pub struct Layout {
     pub high: usize,
@@ -54,6 +54,7 @@ pub fn layout_of(p: SoundPattern, longest: u16) -> Layout
     let c = radix(p.pattern, 2);
     let d = radix(p.pattern, 3);
     let places = usize::from(p.pattern.placecount);
+    // A number of 64 bits, and std has no `From` for it.
     let block = (a * b * c * d) as usize;
     let radices = [a as usize, b as usize, c as usize, d as usize];
     Layout {
@@ -102,7 +103,7 @@ fn next_clocks(l: Layout, clocks: [usize; 4], k: usize) -> [usize; 4]
 
 // The clocks of cell k of a block. One by one, as the definition has them (`clocks_at`); so `code` (`code_of`).
 fn clocks_at(l: Layout, k: usize) -> [usize; 4]
-    requires { (k < l.block) }
+    requires { k < l.block }
     ensures { result ≡ clocks_at l.radices k }
 {
     let [_, s, t, u] = l.radices;
@@ -128,7 +129,7 @@ pub fn clocks_to(l: Layout, clocks: [usize; 4], k: usize, to: usize) -> [usize; 
 
 // The cell of a block that has these clocks.
 pub fn code(l: Layout, clocks: [usize; 4]) -> usize
-    requires { (Within l.radices clocks) }
+    requires { Within l.radices clocks }
     ensures { result ≡ code_of l.radices clocks }
 {
     let [a, b, c, d] = clocks;

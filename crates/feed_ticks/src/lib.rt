@@ -108,6 +108,7 @@ fn tell(
     ensures lengths_after { lengths.new ≡ set lengths.old i (length_of (told_in g.now v.now first.old)) }
     ensures flagged { Flagged g.now.layout first.new flags.new }
 {
+    // A length narrows by `as`: it is at most the window's high.
     let (score, ticks) = match tick(first, flags, g, v) {
         Some(r) => (r.score, r.length as u32),
         None => (0, 0),

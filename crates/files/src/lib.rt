@@ -140,7 +140,11 @@ pub fn write_out(rt: &HostRuntime, bytes: &[u8]) -> Result<(), Unwritten> {
             }
         }
     }
-    Err(Unwritten::Failed)
+    if rest.is_empty() {
+        Ok(())
+    } else {
+        Err(Unwritten::Failed)
+    }
 }
 
 // What stands behind standard output, if it is a file that can be opened once more.

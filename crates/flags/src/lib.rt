@@ -14,7 +14,8 @@ pub fn has_bit(x: u32, i: usize) -> bool
     (x >> i) % 2 == 1
 }
 
-// A number with bit i set, if `on` says so: `look_cells` asks it of each cell of a row, held or not (`feed_checks`).
+// A number with bit i set, if `on` says so: the looks of `feed_checks` ask it of each cell or block, held or not. Written out there it
+// would be no shorter.
 pub fn with_bit(x: u32, i: usize, on: bool) -> u32
     requires { i < 32 }
     ensures { result ≡ cond on (bit_or x (2 ^ i)) x }

@@ -89,7 +89,7 @@ pub extern "C" fn monitor_feed(
         ≡ fed_lengths (read_of text.now) state.old first.old second.old
         (call_of duration values.now scores.old lengths.old) }
 {
-    // By `match`: `and_then` was tried, and the proof did not close, since what its closure leaves behind a captured `&mut` has no name.
+    // By `match`, as in `monitor_open`.
     match read(text) {
         Ok(p) => answer_number(&feed_pattern(
             p, state, first, second, duration, values, scores, lengths,
@@ -130,7 +130,7 @@ pub extern "C" fn record_best(
     ensures second_after { second.new ≡ record_second (read_of text.now) durations.now values.now
         first.old second.old }
 {
-    // By `match`: `and_then` was tried, and the proof did not close, since what its closure leaves behind a captured `&mut` has no name.
+    // By `match`, as in `monitor_open`.
     match read(text) {
         Ok(p) => RecordBest::from(best(p, durations, values, first, second)),
         Err(cause) => RecordBest::from(Err(cause)),

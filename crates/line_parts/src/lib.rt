@@ -63,7 +63,7 @@ pub fn read_spaced(text: &[u8]) -> Option<(u32, &[u8])>
     read_number(read_word(text, b" ")?)
 }
 
-// A test by its sign: a sign, a channel, a bound.
+// A test by its sign: a sign, a channel, a bound. A number held at the type's limit narrows by `as`, here and below.
 fn read_side(text: &[u8]) -> Option<(Test, &[u8])>
     ensures { read_of result ≡ giving (λ x. held_raw (side_of x)) (side_test.read text.now) }
 {

@@ -11,7 +11,7 @@ use pattern::sound_pattern::SoundPattern;
 use pattern::{Pattern, Refusal};
 use std::marker::Model;
 
-// In a clause it is the pattern.
+// In a clause it is the pattern. It holds no `SoundPattern`: each field would be read as `pattern.pattern`.
 #[derive(Clone, Copy)]
 pub struct Plan {
     pub pattern: Pattern,

@@ -1,5 +1,5 @@
 // A pattern value that is sound. The operations take any value, since document 01 has an answer for each (7), and begin with
-// `new`. Of what stands behind that check, the count of cells and `cells::layout_of` take this type.
+// `new`, or with that of `monitor::plan::Plan`. The count of cells, `cells::layout_of` and the start of `watch` take this type.
 ghost use Rattle.std.specs.Prelude.{◌≡◌, true, cond, Ok, Err};
 ghost use Rattle.pattern.specs.declared.Pattern.{Pattern};
 ghost use Rattle.pattern.specs.declared.Refusal.TheVariants.{UnsoundPattern};

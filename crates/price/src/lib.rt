@@ -106,6 +106,7 @@ fn score(course: &Course, begin: u32, edges: &[u32], stays: &[u32]) -> Result<i6
     let Record { durations, values } = course.lent;
     let found = find(durations, begin);
     let at = found.piece * usize::from(p.channels);
+    // A sound record's ticks narrow by `as`.
     let left = ticks(durations) as u32 - begin;
     let s = start(p, edges[0], found.used, left).ok_or(Refusal::NotARun)?;
     let lent = Record {

@@ -92,7 +92,7 @@ impl<'a> Course<'a> {
         Some(next)
     }
 
-    // Step after step, if each can be made. Edges and stays come as two slices: packed they would only be taken apart by `zip`.
+    // Step after step, if each can be made. Edges and stays come as two slices: a struct of both would only be taken apart here.
     pub fn run(&self, s: Stand, edges: &[u32], stays: &[u32]) -> Option<Stand>
         requires { HeldIn self.now s }
         ensures { RanIn self.now s (steps_of edges.now stays.now) result }

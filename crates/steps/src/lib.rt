@@ -31,20 +31,20 @@ fn narrow(s: Span, sign: Sign, bound: u16) -> Span
     let bound = usize::from(bound);
     match sign {
         Sign::Less => Span {
-            low: s.low,
             upto: s.upto.min(bound),
+            ..s
         },
         Sign::AtMost => Span {
-            low: s.low,
             upto: s.upto.min(bound + 1),
+            ..s
         },
         Sign::More => Span {
             low: s.low.max(bound + 1),
-            upto: s.upto,
+            ..s
         },
         Sign::AtLeast => Span {
             low: s.low.max(bound),
-            upto: s.upto,
+            ..s
         },
     }
 }
@@ -105,7 +105,7 @@ pub fn steps_of(edges: [Edge; 32], count: usize) -> [Step; 32]
     steps
 }
 
-// A clock, unless it is reset: by a flag, as the definition `kept_by` has it.
+// A clock, unless it is reset. Written out in `after` (tried) the proof of that did not close.
 fn kept_by(reset: bool, clock: usize) -> usize
     ensures { result ≡ kept_by reset clock }
 {

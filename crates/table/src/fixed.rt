@@ -12,7 +12,8 @@ use weighting::Weighing;
 // The layout of the table; how runs are weighed; the edges in use, as the pattern has them, linked place by place and as
 // steps; the places where a run may begin and end, and the least length with which it may end. Of the edges the contracts
 // alone speak, but a ghost field can only be a fact (tried): they are an array with a count, as the definitions have them
-// (`common_of` of `feed_ticks`), where nothing allocates.
+// (`common_of` of `feed_ticks`), where nothing allocates. `laid` says what the layout's type says, for functions that read none of
+// its fields.
 #[derive(Drop)]
 pub struct Ground {
     pub layout: Layout,

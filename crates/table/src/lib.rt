@@ -91,7 +91,8 @@ fn offer(table: &mut [i64], w: Weighing, j: usize, worth: i64)
 
 // Along edge i into length n + 1, just entered, if it can be taken, and into the report if a run of this length may end
 // there. Only the contract speaks of the edge: the code goes by its step.
-// What the report is so far, the length and where it may end change from row to row, so they are no part of what never changes.
+// What the report is so far, the length and where it may end change from row to row, so they are no part of what never changes; nor
+// are they a struct, since the report is handed on and back and the others are only read.
 pub fn leave(
     table: &mut [i64],
     flags: &mut [u32],

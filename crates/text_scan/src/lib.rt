@@ -66,7 +66,8 @@ pub fn read_number(text: &[u8]) -> Option<(u32, &[u8])>
     read_held(text, 1_000_001)
 }
 
-// What follows a minus.
+// What follows a minus. A held number turns signed by `as`, here and below: `try_from` would need an answer for a refusal that cannot
+// come.
 fn read_negative(text: &[u8]) -> Option<(i32, &[u8])>
     ensures { read_of result ≡ giving held_integer (and_then (numeral_of text.now) minus) }
 {

@@ -36,7 +36,7 @@ where
     T::try_from(n).unwrap_or_default()
 }
 
-// A test's bound, below the limit of the table; another number is 0, as the program answered it.
+// A test's bound, below the limit of the table; another number is 0.
 fn bound(n: u64) -> i32 {
     match i32::try_from(n) {
         Ok(bound) if bound < 2_000_000_000 => bound,
@@ -44,7 +44,7 @@ fn bound(n: u64) -> i32 {
     }
 }
 
-// The bounds below 0 that there are in the table; another number is 0, as the program answered it.
+// The bounds below 0 that there are in the table; another number is 0.
 fn below_zero(n: u64) -> i32 {
     match n {
         1 => -1,
@@ -161,7 +161,7 @@ fn look(rt: &HostRuntime, line: &[u8], table: &[u8]) -> io::Result<()> {
     print(rt, judged(value, due), line)
 }
 
-// No `for` over the lines: a row that lacks numbers reads on in the next line, and the program answers as it did.
+// No `for` over the lines: a row that lacks numbers reads on in the next line.
 fn answer_rows(rt: &HostRuntime, table: &[u8]) -> io::Result<()> {
     let mut rest = table;
     while !rest.is_empty() {

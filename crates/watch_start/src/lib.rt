@@ -55,9 +55,8 @@ fn opened(
     ensures second_after { second.new
         ≡ start_second (accepted p) text.now first.old second.old }
 {
-    let SoundPattern { pattern } = p;
-    check(text, pattern.channels)?;
-    open(pattern, first, second)
+    check(text, p.pattern.channels)?;
+    open(p.pattern, first, second)
 }
 
 // The start: the pattern's text is judged first.

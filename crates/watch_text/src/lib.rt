@@ -46,14 +46,16 @@ fn put_report(out: &mut Writer, end: u32, score: i64, length: u32)
     ensures put { Puts out.old out.new (row_for end score length) }
     ensures length_bound { size (row_for end score length) ≤ 64 }
 {
-    // Goals are named after a test: so the edit ends_without_a_run_have_lines leaves their names. Without answers no proof closed.
+    // The test has a name, by which the answers' goals are called: the edit ends_without_a_run_have_lines keeps it. Without answers no
+    // proof closed.
     let has_run = length != 0;
     if has_run {
         put_row(out, end, end - length, score);
     }
 }
 
-// The first `count` reports of a stretch that begins after `ticks` ticks. The slices hold more, as `best::choose_all` takes them.
+// The first `count` reports of a stretch that begins after `ticks` ticks. The slices hold more, and the
+// definition `rows_past` has the count, as in `best::choose_all`.
 pub fn put_reports(out: &mut Writer, ticks: u32, count: u32, scores: &[i64], lengths: &[u32])
     requires { (count ≤ length scores.now) × (count ≤ length lengths.now) × (ticks + count ≤ 2147483647)
         × ((i : ℕ) → i < count → get_or lengths.now i 0 ≤ ticks + i + 1) }
