@@ -6,7 +6,10 @@ use Rattle.feed_moves.proofs.Lists.{cleared-is}
 use Rattle.feed_moves.proofs.mark_all.Goals as goal
 
 pub clear-requires : goal.clear-requires
-clear-requires c = (omega arith, rw c.cells.ensures c.requires)
+clear-requires c =
+    let e = c.cells.ensures in
+    let h = c.requires in
+    (omega arith, omega arith)
 
 pub returns : goal.returns
 returns c =

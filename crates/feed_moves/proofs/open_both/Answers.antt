@@ -1,5 +1,10 @@
 -- `open_both`: the layout is that of the pattern.
+use mathlib.Core.Path.{◌≡◌, ap, ◌∙◌}
+use mathlib.Core.List.{List}
+use mathlib.Core.Bool.{Bool, false}
 use Rattle.pattern.specs.Kinds.{is_start}
+use Rattle.table.specs.Moves.{open_of}
+use Rattle.feed_ticks.specs.Ticks.{kind_flags}
 use Rattle.monitor.proofs.CellLaws.{layout-made}
 use Rattle.feed_moves.proofs.Meaning.{open_written}
 use Rattle.feed_moves.proofs.open_both.Goals as goal
@@ -14,9 +19,11 @@ pub returns : goal.returns
 returns c =
     let i = c.p.inside in
     let a = c.args in
+    let starts : c.kind_flags-starts.result ≡ kind_flags false i.pattern = c.kind_flags-starts.ensures is_start (λ k r h. h.1) in
     record {
       first_after =
-          rw (c.«open».ensures, c.kind_flags-starts.ensures is_start (λ k r h. h.1), c.p.invariant.1, ← c.p.view_is)
-          (open_written i.pattern c.p.invariant.0 a.first.now (rw c.p.view_is c.requires.p_in_bounds));
+          c.«open».ensures
+          ∙ ap (λ (f : List Bool). open_of i.layout i.pattern.weighing f a.first.now) starts
+          ∙ rw (c.p.invariant.1, ← c.p.view_is) (open_written i.pattern c.p.invariant.0 a.first.now (rw c.p.view_is c.requires.p_in_bounds));
       second_after = c.mark_all.ensures;
     }
