@@ -54,7 +54,7 @@ fn header_fine(h: Header) -> bool
 }
 
 // A pattern of a header alone.
-// No `From`: both types are of other crates, and the numbers are held.
+// No `From`: both types are of other crates, and the numbers are held, so that they narrow by `as`, here and below.
 #[tactic(auto, unfolding(crate::specs::Turn::header_alone))]
 fn header_alone(h: Header) -> Pattern
     ensures { result ≡ header_alone h }

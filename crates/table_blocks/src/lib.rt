@@ -30,7 +30,8 @@ pub fn occupied(table: &[i64], at: usize, k: usize, size: usize) -> Option<Spot>
     None
 }
 
-// A worth, both it and its clocks a tick later, along each edge out of p: the links lead from one to the next.
+// A worth, both it and its clocks a tick later, along each edge out of p. By `while`: the next index is read in the links, and by
+// `successors` a closure would read it, in as many lines.
 // What the report is so far and where a run may end change from row to row, here and below.
 fn leaves(
     table: &mut [i64],

@@ -47,7 +47,7 @@ impl<'a> Writer<'a> {
     pub fn number(&mut self, number: u64)
         ensures { Puts self.old self.new (decimal number) }
     {
-        // Whether digits stand before the last one.
+        // Whether digits stand before the last one. (A digit narrows by `as`.)
         let more = number >= 10;
         if more {
             self.number(number / 10);

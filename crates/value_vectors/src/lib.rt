@@ -97,7 +97,7 @@ fn usual() -> Pattern {
 }
 
 // What a row says by its mark and its numbers.
-// A match on the row's mark: a table of closures would be no plainer.
+// A match on the row's mark, each arm a pattern: a table of closures would have a line for each mark, too.
 fn altered(mark: u8, numbers: [u64; 6]) -> Pattern {
     let [a, b, c, d, e, f] = numbers;
     let (first, second) = (a as usize, b as usize);

@@ -122,7 +122,7 @@ fn step_rows(
 }
 
 // The next lines: a refusal's, and no other; the heading; those of ends, or the last.
-// A match on the stage: a closure for each would be no plainer.
+// A match on the stage, each arm a call: a closure for each would be made to be called once, here.
 fn put_step(text: &[u8], w: Watch, first: &mut [i64], second: &mut [i64], out: &mut Writer) -> Watch
     requires { (Standing text.now w first.old second.old) × (is_done w.stage ≡ false) }
     ensures { StepPut text.now w first.old second.old out.old first.new second.new out.new result }
