@@ -67,7 +67,7 @@ fn feed_with(
 }
 
 // Feeding a piece: 7, 12, 11, 8, 13, 14, 6; else a score and a length for each tick. A table of few rows gets few flags: with
-// those of the highest window a call on the smallest of the benchmark's tables takes 15% longer (measured).
+// those of the highest window a call of one tick on a table with the window 4 takes 15% longer (measured: OVERSHOOT).
 // The slices come one by one, as in `feed_with`.
 pub fn feed(
     s: State,

