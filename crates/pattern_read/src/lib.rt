@@ -20,10 +20,10 @@ pub fn read(text: &[u8]) -> Result<Pattern, Refusal>
     }
     let mut reader = Reader::new(text, 0);
     let (mut pattern, rest) = first_line(reader.left())?;
-    reader = reader.moved(rest);
+    reader = reader.moved_to(rest);
     while reader.unread() {
         let rest = further_line(reader.left(), &mut pattern)?;
-        reader = reader.moved(rest);
+        reader = reader.moved_to(rest);
     }
     if pattern.placecount == 0 {
         return Err(Refusal::BrokenForm);

@@ -112,7 +112,7 @@ pub fn piece_at(text: &[u8], at: usize) -> PieceRead
     PieceRead {
         duration: line.duration,
         values: line.values.parts.map(|v| v.0),
-        next: r.moved(rest).at,
+        next: r.moved_to(rest).at,
     }
 }
 
@@ -149,7 +149,7 @@ fn check_lines(text: &[u8], channels: u8) -> Result<(), Refusal>
     while r.unread() {
         let (line, rest) = read_line(r.left()).ok_or(Refusal::BrokenForm)?;
         s = s.with(line, channels);
-        r = r.moved(rest);
+        r = r.moved_to(rest);
     }
     let kept = s.sound & (s.ticks <= 2_147_483_647);
     if kept {

@@ -32,13 +32,20 @@ impl<'a> Reader<'a> {
         self.text.get(self.at..).unwrap_or(&[])
     }
 
-    // The reader that has as much left as `rest`, what a line left of the text.
-    pub fn moved(self, rest: &[u8]) -> Reader<'a>
-        ensures { (result.text ≡ self.entry.text) × (result.at ≡ length self.entry.text.now - length rest.now) }
+    // The reader at another offset.
+    pub fn moved(self, at: usize) -> Reader<'a>
+        ensures { (result.text ≡ self.entry.text) × (result.at ≡ at) }
     {
         Reader {
             text: self.text,
-            at: self.text.len().saturating_sub(rest.len()),
+            at,
         }
+    }
+
+    // The reader that has as much left as `rest`, what a line left of the text.
+    pub fn moved_to(self, rest: &[u8]) -> Reader<'a>
+        ensures { (result.text ≡ self.entry.text) × (result.at ≡ length self.entry.text.now - length rest.now) }
+    {
+        self.moved(self.text.len().saturating_sub(rest.len()))
     }
 }

@@ -53,7 +53,7 @@ loop-reader-init c =
     let left = all_left (goal.at.loop-reader-init c).After-first_line in
     let lent : c.new-reader.result.text.now ≡ t = ap (λ x. x.now) c.new-reader.ensures.0 in
     let k : Started t c.in_ok-pattern.pattern c.in_ok-pattern.rest.now = started t (rw left at c.in_ok-pattern.ensures) in
-    record { lent = ap (λ x. x.now) c.moved-reader.ensures.0 ∙ lent; stands = rw (c.moved-reader.ensures.1, lent, rest_at t 0 k.rest) k.stands }
+    record { lent = ap (λ x. x.now) c.moved_to-reader.ensures.0 ∙ lent; stands = rw (c.moved_to-reader.ensures.1, lent, rest_at t 0 k.rest) k.stands }
 
 -- ---- a further line
 
@@ -83,7 +83,7 @@ returns-in_err-rest c =
 pub loop-reader-preserved : goal.loop-reader-preserved
 loop-reader-preserved c =
     let k = went (goal.at.loop-reader-preserved c).After-further_line c.in_ok-rest.ensures.left c.in_ok-rest.ensures.pattern in
-    let moved = c.moved-reader-in-loop-reader.ensures in
+    let moved = c.moved_to-reader-in-loop-reader.ensures in
     record {
       lent = ap (λ x. x.now) moved.0 ∙ c.loop-reader.invariant.lent;
       stands = rw (moved.1, c.loop-reader.invariant.lent, rest_at c.args.text.now c.loop-reader.reader.at k.rest) k.stands;

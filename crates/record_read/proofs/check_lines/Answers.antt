@@ -26,14 +26,14 @@ loop-r-smaller c =
     let e = rw (c.left.ensures, c.in_ok-line.ensures.ok_part) at c.read_line.ensures in
     let within = line_within r.text.now r.at c.in_ok-line.line c.in_ok-line.rest.now e in
     let further = line_further r.text.now r.at c.in_ok-line.line c.in_ok-line.rest.now e in
-    let next = c.moved-r.ensures.1 in
-    rw (c.moved-r.ensures.0, next) (omega arith)
+    let next = c.moved_to-r.ensures.1 in
+    rw (c.moved_to-r.ensures.0, next) (omega arith)
 
 pub loop-r-preserved : goal.loop-r-preserved
 loop-r-preserved c =
     let r = c.loop-r.r in
     let e = rw (c.left.ensures, c.in_ok-line.ensures.ok_part) at c.read_line.ensures in
-    rw (c.moved-r.ensures.0, c.moved-r.ensures.1, line_left r.text.now r.at c.in_ok-line.line c.in_ok-line.rest.now e, c.with-s.ensures)
+    rw (c.moved_to-r.ensures.0, c.moved_to-r.ensures.1, line_left r.text.now r.at c.in_ok-line.line c.in_ok-line.rest.now e, c.with-s.ensures)
     (turn_on c.args.channels c.args.text.now (drop r.at r.text.now) c.loop-r.s (omega (arith, c.ranges.channels)) c.loop-r.invariant c.in_ok-line.line c.in_ok-line.rest.now e)
 
 pub returns-then-kept : goal.returns-then-kept
