@@ -19,7 +19,6 @@ use flags::raise_starts;
 use monitor::State;
 use monitor::plan::Plan;
 use pattern::clocks::in_use;
-use pattern::is_start;
 use table_tick::clear;
 
 // The needed cells of the second table are all marks.
@@ -38,7 +37,7 @@ pub fn open_both(p: Plan, first: &mut [i64], second: &mut [i64])
     ensures first_after { first.new ≡ written p (open_table p) first.old }
     ensures second_after { second.new ≡ marks p second.old }
 {
-    let starts = kind_flags(p.pattern, is_start);
+    let starts = kind_flags(false, p.pattern);
     table_tick::open(first, p.layout, p.pattern.weighing, starts);
     mark_all(p, second);
 }
@@ -49,7 +48,7 @@ pub fn flag_opened(p: Plan, flags: &mut [u32])
     ensures { (t : List ℤ) → cells_needed p ≤ length t
         → Flagged (layout p) (written p (open_table p) t) flags.new }
 {
-    let starts = kind_flags(p.pattern, is_start);
+    let starts = kind_flags(false, p.pattern);
     raise_starts(flags, starts, usize::from(p.pattern.placecount));
 }
 

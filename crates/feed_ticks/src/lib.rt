@@ -8,7 +8,7 @@ ghost use Rattle.book.specs.View.{counts, gain_in};
 ghost use Rattle.flags.specs.Flags.{Flagged};
 ghost use Rattle.table.specs.Calls.{tick_in, told_in};
 ghost use Rattle.table.specs.Asks.{Gains, Whole};
-ghost use Rattle.feed_ticks.specs.Ticks.{view_in, view_at, common, common_of, score_of, length_of};
+ghost use Rattle.feed_ticks.specs.Ticks.{kind_flags, view_in, view_at, common, common_of, score_of, length_of};
 ghost use Rattle.feed_ticks.specs.Ticks.{Telling, table_to, scores_to, lengths_to, repeated};
 
 use monitor::plan::Plan;
@@ -22,12 +22,23 @@ use table_tick::tick;
 use weighting::{Weighing, unit};
 
 // For each place what the test says of its kind.
-pub fn kind_flags<F: Fn(Kind) -> bool>(p: Pattern, test: F) -> [bool; 16]
+pub fn flags_by<F: Fn(Kind) -> bool>(p: Pattern, test: F) -> [bool; 16]
     requires { F.IsAlwaysCallable test }
     ensures { (f : Kind → Bool) → ((k : Kind) (r : Bool) → F.post test k r → r ≡ f k)
         → result ≡ map (λ l. f l.kind) p.places }
 {
     std::array::from_fn(|i| test(p.places[i].kind))
+}
+
+// For each place whether a run may end there, or else whether one may begin there. The flag is the definition's.
+pub fn kind_flags(ending: bool, p: Pattern) -> [bool; 16]
+    ensures { result ≡ kind_flags ending p }
+{
+    if ending {
+        flags_by(p, is_end)
+    } else {
+        flags_by(p, is_start)
+    }
 }
 
 // What never changes in a call that feeds the pattern.
@@ -39,8 +50,8 @@ pub fn ground_of(p: Plan) -> Ground
     let count = usize::from(pattern.edgecount);
     let links = links_of(edges, count);
     let steps = steps_of(edges, count);
-    let starts = kind_flags(pattern, is_start);
-    let ends = kind_flags(pattern, is_end);
+    let starts = kind_flags(false, pattern);
+    let ends = kind_flags(true, pattern);
     Ground {
         layout,
         weighing: pattern.weighing,

@@ -2,7 +2,6 @@
 use native.Mathlib.Omega.{arith}
 use mathlib.Core.Path.{◌≡◌, refl}
 use mathlib.Core.Bool.{false}
-use Rattle.pattern.specs.Kinds.{is_start}
 use Rattle.pattern.proofs.SoundLaws.{parts}
 use Rattle.cells.specs.Layout.{layout_of}
 use Rattle.table.proofs.Flags.{flagged_open}
@@ -27,6 +26,6 @@ returns c =
     rw (← c.p.view_is) (λ t long.
     let m = layout-made p sound _ refl in
     let cells = m.1 in
-    let starts : c.kind_flags-starts.result ≡ kind_flags false p = c.kind_flags-starts.ensures is_start (λ k r h. h.1) in
+    let starts : c.kind_flags-starts.result ≡ kind_flags false p = c.kind_flags-starts.ensures in
     rw (c.raise_starts.ensures, c.from.ensures, starts, ← open_written p sound t long)
     (flagged_open _ m.0 p.weighing (kind_flags false p) t _ (omega arith) (omega arith)))

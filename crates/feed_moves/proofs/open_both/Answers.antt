@@ -2,7 +2,6 @@
 use mathlib.Core.Path.{◌≡◌, ap, ◌∙◌}
 use mathlib.Core.List.{List}
 use mathlib.Core.Bool.{Bool, false}
-use Rattle.pattern.specs.Kinds.{is_start}
 use Rattle.table.specs.Moves.{open_of}
 use Rattle.feed_ticks.specs.Ticks.{kind_flags}
 use Rattle.monitor.proofs.CellLaws.{layout-made}
@@ -19,7 +18,7 @@ pub returns : goal.returns
 returns c =
     let i = c.p.inside in
     let a = c.args in
-    let starts : c.kind_flags-starts.result ≡ kind_flags false i.pattern = c.kind_flags-starts.ensures is_start (λ k r h. h.1) in
+    let starts : c.kind_flags-starts.result ≡ kind_flags false i.pattern = c.kind_flags-starts.ensures in
     record {
       first_after =
           c.«open».ensures
