@@ -1,5 +1,5 @@
 -- A part of a list that is filled with the same; and reports made one by one, of which the later ones are all alike.
-use Prim.Native.Nat.{ℕ, zero, suc, ◌+◌, ◌≤◌, ◌<◌}
+use Prim.Native.Nat.{ℕ, zero, suc, ◌+◌, ◌-◌, ◌≤◌, ◌<◌}
 use native.Mathlib.Omega.{arith}
 use mathlib.Core.Path.{◌≡◌, sym, ap, ◌∙◌}
 use mathlib.Core.List.{List, ◌++◌, map}
@@ -18,6 +18,14 @@ repeated-paste {A} l from (suc n) a h =
     ap (λ (m : ℕ). paste l from (replicate m a) m) (sym (add-one n))
     ∙ sym (fill_from_more l from n a (omega arith))
     ∙ ap (λ (u : List A). set u (from + n) a) (repeated-paste l from n a (omega arith))
+
+-- one place more that holds the same
+pub repeated-more : {A : Type 0} (l : List A) (from i : ℕ) (a : A) → from ≤ i → set (repeated l from (i - from) a) i a ≡ repeated l from (i + 1 - from) a
+unfolding repeated
+repeated-more l from i a h =
+    let e : i + 1 - from ≡ suc (i - from) = omega arith in
+    let f : from + (i - from) ≡ i = omega arith in
+    rw (e, f)
 
 module _ {A : Type 0} (f : ℕ → A) (l : List A) (m : ℕ) (a d : A) where
   -- the first m are made, and each later one is a

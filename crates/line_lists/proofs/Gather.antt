@@ -8,7 +8,7 @@ use Rattle.std.specs.Prelude.{Option, Some}
 use Rattle.std.specs.Borrow.{Bor}
 use Rattle.text_scan.specs.Scan.{read_of}
 use Rattle.pattern_text.specs.Bytes.{Bytes, Reading, got, broken}
-use Rattle.pattern_text.specs.Form.{giving, go_on, read_many}
+use Rattle.pattern_text.specs.Form.{Form, giving, go_on, read_many, many}
 
 -- as many members as stand there
 abbrev pub all_read : {A : Type 0} → (Bytes → Reading A) → Bytes → Reading (List A)
@@ -44,6 +44,19 @@ module _ {A : Type 0} (f : Bytes → Reading A) (less : (b : Bytes) (a : A) (r :
       go h (got a r) e = let l = less b a r e in ap (giving (◌∷◌ a)) (h r (omega arith) (omega arith))
       go h broken e = refl
 
+  never_broken : (n : ℕ) (b : Bytes) → read_many f n b ≡ broken → ⊥
+  unfolding read_many
+  never_broken zero b e = let z : ◌≡◌ {A = ℕ} 0 1 = cc in omega arith
+  never_broken (suc n) b e = go (f b) (λ r. never_broken n r) e
+    where
+      on : (a : A) (x : Reading (List A)) → (x ≡ broken → ⊥) → giving (◌∷◌ a) x ≡ broken → ⊥
+      on a (got l r) h p = let z : ◌≡◌ {A = ℕ} 0 1 = cc in omega arith
+      on a broken h p = h refl
+
+      go : (x : Reading A) → ((r : Bytes) → read_many f n r ≡ broken → ⊥) → go_on x b (λ r. read_many f n r) ≡ broken → ⊥
+      go (got a r) h p = on a (read_many f n r) (h r) p
+      go broken h p = let z : ◌≡◌ {A = ℕ} 0 1 = cc in omega arith
+
   pub many-end : (b : Bytes) → f b ≡ broken → all_read f b ≡ got [] b
   unfolding read_many
   many-end [] e = refl
@@ -71,6 +84,19 @@ module _ {A : Type 0} (f : Bytes → Reading A) (less : (b : Bytes) (a : A) (r :
     pub next_part : (start s : S) (b t : Bytes) (o : Option (A × Bor Bytes)) → read_of o ≡ f b → (x : A) (r : Bor Bytes) → o ≡ Some (x, r) → {more : S}
         → gather add start (all_read f t) ≡ gather add s (all_read f b) → more ≡ add s x → gather add start (all_read f t) ≡ gather add more (all_read f r.now)
     next_part start s b t o e x r p k h = k ∙ gather-more s b x r.now (sym e ∙ ap read_of p) ∙ ap (λ (y : S). gather add y (all_read f r.now)) (sym h)
+
+-- reading a list never fails
+module _ {A : Type 0} (f : Form A) (less : (b : Bytes) (a : A) (r : Bytes) → f.read b ≡ got a r → length r < length b) where
+  pub many_got : {X : Type 0} (b : Bytes) → ((l : List A) (r : Bytes) → (many f).read b ≡ got l r → X) → X
+  unfolding many
+  many_got {X = X} b k = some (length b) b k
+    where
+      some : (n : ℕ) (b : Bytes) → ((l : List A) (r : Bytes) → read_many f.read n b ≡ got l r → X) → X
+      some n b k = go (read_many f.read n b) refl
+        where
+          go : (x : Reading (List A)) → read_many f.read n b ≡ x → X
+          go (got l r) e = k l r e
+          go broken e = absurd (never_broken f.read less n b e)
 
 -- adding all of a list to what some members give is what all of them give
 pub all_of : {A S : Type 0} (add : S → A → S) (of : List A → S) → ((xs : List A) (x : A) → add (of xs) x ≡ of (xs ++ (x ∷ []))) → (xs ys : List A) → folded add (of xs) ys ≡ of (xs ++ ys)

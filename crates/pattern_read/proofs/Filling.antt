@@ -8,7 +8,7 @@ use mathlib.Core.Bool.{true, ◌&&◌}
 use lib.Dec.{leb, ltb}
 use lib.ListN.{length, set, replicate, length-append, length-map}
 use borrow.Author.Tests.{leb-true, ltb-true, lt-ltb}
-use Rattle.pattern.specs.Slots.{all, within}
+use Rattle.pattern.specs.Slots.{all}
 use Rattle.pattern.specs.Sound.{no_place, no_edge, test_in_range, test_known, guard_in_range, guard_known, header_in_range}
 use Rattle.pattern.proofs.SlotLaws.{all-mapped}
 use Rattle.pattern_text.specs.Line.{test_of, Header, PlaceLine, EdgeLine}
@@ -21,30 +21,11 @@ use Rattle.text_scan.specs.Scan.{cap}
 use Rattle.line_lists.specs.Lists.{gathered}
 use Rattle.line_read.specs.Lines.{held_header, held_place, held_edge}
 use Rattle.line_lists.proofs.Held.{min-ltb}
+use Rattle.pattern_lines.proofs.Judgement.{InRange, ranges}
 use Rattle.pattern_lines.specs.Turn.{verdict, verdict_of, header_fine, header_alone, put_place, place_verdict, place_from, put_edge, edge_verdict, edge_from}
 use Rattle.pattern_read.proofs.HeldLines.{header_held, few-held, place-held, guards-held, resets-held, resets-known}
 
 -- ---- the header
-
-record InRange (c k l h : ℕ) : Type 0 where
-  some : 1 ≤ c
-  few : c ≤ 8
-  clocks : k ≤ 4
-  least : 1 ≤ l
-  low : l ≤ 4_095
-  above : l ≤ h
-  high : h ≤ 4_095
-
-ranges : (channels clocks low high : ℕ) → header_in_range channels clocks low high ≡ true → InRange channels clocks low high
-unfolding header_in_range
-ranges c k l h e =
-    let a = both (within 1 8 c && leb k 4 && within 1 4_095 l) (within l 4_095 h) e in
-    let b = both (within 1 8 c && leb k 4) (within 1 4_095 l) a.0 in
-    let d = both (within 1 8 c) (leb k 4) b.0 in
-    let x = both (leb 1 c) (leb c 8) d.0 in
-    let y = both (leb 1 l) (leb l 4_095) b.1 in
-    let z = both (leb l h) (leb h 4_095) a.1 in
-    record { some = leb-true 1 c x.0; few = leb-true c 8 x.1; clocks = leb-true k 4 d.1; least = leb-true 1 l y.0; low = leb-true l 4_095 y.1; above = leb-true l h z.0; high = leb-true h 4_095 z.1 }
 
 abbrev pub headed : Header → Doc
 headed h = record { head = h; places = []; edges = [] }
@@ -65,7 +46,7 @@ header_filled h e =
 
 -- ---- what fits is small
 
-small : (d : Doc) → Fits d → InRange d.head.channels d.head.clocks d.head.low d.head.high
+pub small : (d : Doc) → Fits d → InRange d.head.channels d.head.clocks d.head.low d.head.high
 unfolding head_fits
 small d f = ranges d.head.channels d.head.clocks d.head.low d.head.high f.head
 

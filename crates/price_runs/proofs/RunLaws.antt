@@ -1,5 +1,5 @@
 -- A run, step by step: what a step leaves, and the steps of two lists.
-use Prim.Native.Nat.{ℕ, zero, suc, ◌-◌, ◌≤◌, ◌<◌}
+use Prim.Native.Nat.{ℕ, zero, suc, ◌+◌, ◌-◌, ◌≤◌, ◌<◌}
 use native.Mathlib.Omega.{arith}
 use mathlib.Core.Path.{◌≡◌, refl, sym, ap, ◌∙◌}
 use mathlib.Core.List.{List, [], ◌∷◌, ◌++◌, zip_with}
@@ -130,6 +130,16 @@ pub steps-first : (es ss es' ss' : List ℕ) (e n : ℕ) → es ≡ e ∷ es' �
     → steps_of es ss ≡ record { edge = e; stay = n } ∷ steps_of es' ss'
 unfolding steps_of zip_with
 steps-first es ss es' ss' e n f g = rw (f, g)
+
+-- step i, and the steps after it
+pub steps-at : (es ss : List ℕ) (i : ℕ) → length es ≡ length ss → i < length es
+    → drop i (steps_of es ss) ≡ record { edge = get_or es i 0; stay = get_or ss i 0 } ∷ drop (i + 1) (steps_of es ss)
+unfolding steps_of zip_with
+steps-at [] ss i e h = absurd (omega arith)
+steps-at (a ∷ es) [] i e h = absurd (omega arith)
+steps-at (a ∷ es) (b ∷ ss) zero e h = refl
+steps-at (a ∷ es) (b ∷ ss) (suc i) e h =
+    let k : suc i + 1 ≡ suc (i + 1) = omega arith in rw k (steps-at es ss i (omega arith) (omega arith))
 
 pub steps-none : (es ss : List ℕ) → (es ≡ []) ⊎ (ss ≡ []) → steps_of es ss ≡ []
 unfolding steps_of zip_with

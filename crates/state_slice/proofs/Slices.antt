@@ -1,13 +1,14 @@
 -- What a slice that holds a state may go by, and the slice once a state was written into it.
 use Prim.Native.Nat.{ℕ, ◌+◌, ◌≤◌, ◌<◌}
 use native.Mathlib.Omega.{arith}
-use mathlib.Core.Path.{◌≡◌, refl, ◌∙◌}
+use native.Mathlib.Numerals.{add-one}
+use mathlib.Core.Path.{◌≡◌, refl, sym, ap, subst, ◌∙◌}
 use mathlib.Core.List.{List, [], ◌∷◌, ◌++◌}
 use mathlib.Core.Bool.{Bool, true, false, cond, ◌&&◌, and-false}
 use borrow.Author.Tests.{leb-true, le-leb}
 use lib.Dec.{leb}
-use lib.ListN.{length, take, drop, get_or, take-append-drop, length-append, length-take, length-drop}
-use lib.Seq.{take_at, get_or-take, get_or-drop}
+use lib.ListN.{length, take, drop, get_or, set, take-append-drop, length-append, length-take, length-drop}
+use lib.Seq.{paste, paste-suc, take_all, take_at, get_or-take, get_or-drop}
 use lib.IntN.{ℤ, pos}
 use lib.Signed.{pos-nat_abs}
 use Rattle.pattern.specs.Slots.{all}
@@ -75,6 +76,20 @@ none-held l e = by (holds_state l) e
     by : (t : Bool) → None ≡ cond t (Some (state_in l)) None → t ≡ false
     by true k = cc
     by false k = refl
+
+-- ---- a slice once a state was stored
+
+-- the ticks stored, and then the values, one after the other
+pub stored : (l : List ℤ) (t : ℤ) (vs : List ℤ) → 9 ≤ length l → length vs ≡ 8 → paste (set l 0 t) 1 vs 8 ≡ t ∷ (vs ++ drop 9 l)
+stored [] t vs h e = absurd (omega arith)
+stored (x ∷ l) t vs h e = rw (take_all 8 vs (omega arith))
+
+-- a loop that stores s, element by element, over d behind its first element
+pub stored-behind : (d s : List ℤ) (k : ℕ) (z : ℤ) → k + 1 < length d → k < length s → set (paste d 1 s k) (k + 1) (get_or s k z) ≡ paste d 1 s (k + 1)
+stored-behind d s k z h l =
+    let e : 1 + k ≡ k + 1 = omega arith in
+    subst (λ (j : ℕ). set (paste d 1 s k) j (get_or s k z) ≡ paste d 1 s (k + 1)) e
+    (paste-suc d 1 s k z (omega arith) l ∙ ap (paste d 1 s) (sym (add-one k)))
 
 -- ---- the claims
 

@@ -26,13 +26,13 @@ use Rattle.cells.specs.declared.Layout.{Layout}
 use Rattle.cells.specs.Layout.{Laid, cells_in}
 use Rattle.cells.specs.Index.{code_of, clocks_at, ticked, Within, block_at}
 use Rattle.cells.proofs.Digits.{four_is, coded, block-some}
-use Rattle.cells.proofs.Blocks.{row_next, blocks_inside, block-low, block_in}
+use Rattle.cells.proofs.Blocks.{row_next, row_inside, row_fits, blocks_inside, block-low, block_in}
 use Rattle.table.specs.declared.View.{View}
 use Rattle.table.specs.declared.Block.{Block}
 use Rattle.table.specs.declared.Sent.{Sent}
 use Rattle.table.specs.declared.report.Report.{Report}
 use Rattle.steps.specs.Steps.{edge_in}
-use Rattle.table.specs.Moves.{cell_at, cleared, each, offered, moved, still, leave_of, leaves_of, spread_of, stay_of, sent_of, visit_of, visits_of, pass_of, gain_at, gain_in, place_of, places_of, row_of, rows_of, starts_of, begun, tick_of, open_of}
+use Rattle.table.specs.Moves.{cell_at, marked, cleared, each, offered, moved, still, leave_of, leaves_of, spread_of, stay_of, sent_of, visit_of, visits_of, pass_of, gain_at, gain_in, place_of, places_of, row_of, rows_of, starts_of, begun, tick_of, open_of}
 use Rattle.table.specs.Reports.{told_pass, told_place}
 use Rattle.table.specs.Edges.{Edged, Sourced, Hop}
 use Rattle.table.specs.Asks.{Sized, Known, Gains, Whole, Bounded, Moving, Passing, Ready, Placing, Rows}
@@ -55,6 +55,13 @@ sized_mark {k} {z} l (inr s) h =
 pub sized_more : {k m : ℕ} {z : ℤ} → k ≤ m → Sized k z → Sized m z
 sized_more l (inl e) = inl e
 sized_more l (inr s) = inr (omega arith)
+
+pub marked_more : (t : List ℤ) (a i : ℕ) → a ≤ i → set (marked t a (i - a)) i mark ≡ marked t a (i + 1 - a)
+unfolding marked
+marked_more t a i h =
+    let e : i + 1 - a ≡ suc (i - a) = omega arith in
+    let f : a + (i - a) ≡ i = omega arith in
+    rw (e, f)
 
 pub each_more : {A : Type 0} (f : ℕ → A → A) (k : ℕ) (t₀ t u : A) → t ≡ each f k t₀ → u ≡ f k t → u ≡ each f (k + 1) t₀
 unfolding each
@@ -217,6 +224,13 @@ passing_kept k h =
       bounded = bounded-kept k h.apart h.bounded;
     }
 
+pub cell_in : {t : List ℤ} {l : Layout} {b : Block} (k : ℕ) → Passing t l b → k < l.block → b.start + k < length t
+cell_in {t} {l} {b} k h low =
+    let f = row_fits l b.len h.low in
+    let a = h.apart in
+    let i = h.inside in
+    omega arith
+
 pub passing_moving : {t : List ℤ} {l : Layout} {b : Block} (cs : Clocks) → Passing t l b → Within l.radices cs → Moving t l b.len cs
 passing_moving cs h i = record { low = h.low; inside = h.inside; within = i }
 
@@ -307,6 +321,10 @@ module _ (l : Layout) (w : Weighing) (es : List Edge) (count : ℕ) (g h : ℤ) 
 pub known-place : (t : List ℤ) (l : Layout) (v : View) (g h : ℤ) (n p : ℕ) → Gains l v → Ready t l n → p < l.places → g ≡ gain_at v.entered p → h ≡ gain_at v.staying p → Placing t l g h n p
 known-place t l v g h n p k r low eg eh =
     rw (eg, eh) (record { entered = k.entered p low; staying = k.staying p low; place = low; ready = r })
+
+pub known_sourced : {l : Layout} {v : View} {es : List Edge} {count : ℕ} → Known l v es count → Sourced es count
+known_sourced k =
+    record { few = k.edges; froms = λ i h. let f = k.froms i h in let p = k.laid.few in omega arith }
 
 pub edged_sourced : {l : Layout} {es : List Edge} {count : ℕ} → Laid l → Edged l es count → Sourced es count
 edged_sourced laid k =
@@ -399,3 +417,13 @@ whole-rows t l h o = record { inside = o.inside; bounded = record { at = λ k lo
         let s = o.bounded (k / l.row) (k % l.row) (omega arith) (mod-lt k some) in
         let z : cell_at t (k / l.row * l.row + k % l.row) ≡ cell_at t k = ap (cell_at t) d in
         sized_more (omega arith) (rw z at s)
+
+-- cells that are marks or within the limit of row 0 are within every row's
+pub whole_from : (t : List ℤ) (l : Layout) → cells_in l ≤ length t → ((i : ℕ) → i < cells_in l → Sized 32760000000 (cell_at t i)) → Whole t l
+whole_from t l inside o =
+    record {
+      inside = inside;
+      bounded = λ n i low h.
+          let f = row_inside l n (omega arith) in
+          sized_more (omega arith) (o (n * l.row + i) (omega arith));
+    }

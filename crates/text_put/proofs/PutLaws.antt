@@ -7,7 +7,7 @@ use native.Mathlib.Numerals.{add-one, unary_clauses}
 use native.Mathlib.Nat.{add-zero, suc-add, zero-sub, suc-sub-suc}
 use lib.ListN.{length, take, drop, set, get_or, length-append, length-take, length-drop, take-append-drop, drop_of_length-le}
 use lib.Seq.{take_all, take-nil, drop-nil, set_split}
-use Rattle.pattern.proofs.ListLaws.{take_more}
+use Rattle.pattern.proofs.ListLaws.{take-in_use, take_more}
 use Rattle.pattern_text.specs.Bytes.{Bytes}
 use Rattle.pattern_text.specs.Form.{write_many}
 use Rattle.pattern_text.specs.Numeral.{decimal}
@@ -110,6 +110,13 @@ put_full b at x h =
       position = rw (none, add-zero) refl;
     }
 
+-- ---- a list of bytes, one after the other
+pub put_next : {b b' b'' : Bytes} {at m n : ℕ} (xs : Bytes) (i : ℕ) → i < length xs → Put b b' at m (take i xs) → Put b' b'' m n (get_or xs i 0 ∷ []) → Put b b'' at n (take (i + 1) xs)
+put_next xs i h p q = rw (take_more i xs 0 h) (put_then p q)
+
+pub put_all : {b b' : Bytes} {at n : ℕ} (xs : Bytes) (i : ℕ) → length xs ≤ i → Put b b' at n (take i xs) → Put b b' at n xs
+put_all xs i h p = rw (take_all i xs h) at p
+
 -- ---- what a writer puts
 
 pub puts_none : (w : Writer) → Puts w w []
@@ -139,6 +146,10 @@ module _ {A : Type 0} (f : A → Bytes) where
 
   pub many-next : {a b c : Writer} (xs : List A) (i : ℕ) (d : A) → i < length xs → Puts a b (write_many f (take i xs)) → Puts b c (f (get_or xs i d)) → Puts a c (write_many f (take (i + 1) xs))
   many-next xs i d h p q = rw (take_more i xs d h, many_snoc) (puts_then p q)
+
+  -- as many as an array has slots are all that its count names
+  pub many-all : {b b' : Bytes} {at n : ℕ} (xs : List A) (i count size : ℕ) → length xs ≡ size → i ≡ min count size → Put b b' at n (write_many f (take i xs)) → Put b b' at n (write_many f (take count xs))
+  many-all xs i count size l e p = rw (take-in_use count size xs l) at (rw e at p)
 
 -- ---- a number
 pub put_last : {a b : Writer} (k : ℕ) → k < 10 → Puts a b ((48 + k % 10) ∷ []) → Puts a b (decimal k)
