@@ -2,7 +2,7 @@
 // that decides is in `watch_start` and `watch_steps`; how files are read and lines written is in `files`.
 #![tactic(auto)]
 
-ghost use Rattle.std.specs.Prelude.{◌≡◌, ◌≤◌, length};
+ghost use Rattle.std.specs.Prelude.{◌≡◌, ◌≤◌, length, IfSome};
 ghost use Rattle.watch_steps.specs.Steps.{Standing};
 ghost use Rattle.watch_start.specs.Buffers.{pattern_buffer, record_buffer};
 
@@ -31,8 +31,12 @@ fn show_all(
     Ok(())
 }
 
-// The lines for both texts.
-fn show(rt: &HostRuntime, pattern: &[u8], text: &[u8]) -> Result<(), Unwritten> {
+// The lines for both texts, which are what was read into the two buffers: no longer than these, each than its own. The sizes are
+// those that show a text to be too long (`watch_start/specs/Claims` BuffersSuffice).
+fn show(rt: &HostRuntime, pattern: &[u8], text: &[u8]) -> Result<(), Unwritten>
+    requires pattern_len { length pattern.now ≤ pattern_buffer }
+    requires text_len { length text.now ≤ record_buffer }
+{
     let mut first: [i64; 2048] = [0; 2048];
     let mut second: [i64; 2048] = [0; 2048];
     let mut out = [0u8; 4096];
@@ -40,8 +44,7 @@ fn show(rt: &HostRuntime, pattern: &[u8], text: &[u8]) -> Result<(), Unwritten> 
     show_all(rt, text, w, &mut first, &mut second, &mut out)
 }
 
-// Both files are read, or nothing is shown. The buffers have the sizes that show a text to be too long
-// (`watch_start/specs/Claims` BuffersSuffice).
+// Both files are read, each into its buffer, or nothing is shown.
 fn read_both<'p, 't>(
     rt: &HostRuntime,
     pattern: &'p mut [u8],
@@ -49,6 +52,8 @@ fn read_both<'p, 't>(
 ) -> Option<(&'p [u8], &'t [u8])>
     requires pattern_len { length pattern.old ≡ pattern_buffer }
     requires text_len { length text.old ≡ record_buffer }
+    ensures pattern_read { IfSome result (λ both. length both.0.now ≤ pattern_buffer) }
+    ensures text_read { IfSome result (λ both. length both.1.now ≤ record_buffer) }
 {
     let pattern = read_file(rt, b"pattern.txt", pattern);
     let text = read_file(rt, b"record.txt", text);
