@@ -86,12 +86,11 @@ fn tell_piece(
         ≡ lengths_in p last.now values.now first.old duration lengths.old }
     ensures flagged { Flagged (layout p) first.new flags.new }
 {
-    let g = ground_of(p);
-    let v = view_in(p.pattern, last, values);
-    let u = view_in(p.pattern, values, values);
+    let v = view_in(&p.pattern, last, values);
+    let u = view_in(&p.pattern, values, values);
     let still = u32::from(p.pattern.high) + 1;
     let moved = duration.min(still) as usize;
-    tell_all(first, flags, scores, lengths, moved, &g, &v, &u);
+    tell_all(first, flags, scores, lengths, moved, &ground_of(&p), &v, &u);
     repeat_last(scores, lengths, moved, duration as usize);
 }
 

@@ -22,10 +22,10 @@ use table_tick::tick;
 use weighting::{Weighing, unit};
 
 // For each place what the test says of its kind.
-pub fn flags_by<F: Fn(Kind) -> bool>(p: Pattern, test: F) -> [bool; 16]
+pub fn flags_by<F: Fn(Kind) -> bool>(p: &Pattern, test: F) -> [bool; 16]
     requires { F.IsAlwaysCallable test }
     ensures { (f : Kind → Bool) → ((k : Kind) (r : Bool) → F.post test k r → r ≡ f k)
-        → result ≡ map (λ l. f l.kind) p.places }
+        → result ≡ map (λ l. f l.kind) p.now.places }
 {
     std::array::from_fn(|i| test(p.places[i].kind))
 }
@@ -35,33 +35,34 @@ pub fn kind_flags(ending: bool, p: Pattern) -> [bool; 16]
     ensures { result ≡ kind_flags ending p }
 {
     if ending {
-        flags_by(p, is_end)
+        flags_by(&p, is_end)
     } else {
-        flags_by(p, is_start)
+        flags_by(&p, is_start)
     }
 }
 
-// What never changes in a call that feeds the pattern.
-pub fn ground_of(p: Plan) -> Ground
-    ensures { common result ≡ common_of p }
+// What never changes in a call that feeds the pattern. It is no part of its caller's code, so that what it makes on the way is gone from
+// the stack before the ticks; and the plan is lent, so that it is not copied once more for each call (measured: docs/DESIGN-PASS.md).
+#[inline(never)]
+pub fn ground_of(p: &Plan) -> Ground
+    ensures { common result ≡ common_of p.now }
 {
-    let Plan { pattern, layout } = p;
-    let edges = pattern.edges;
-    let count = usize::from(pattern.edgecount);
+    let edges = p.pattern.edges;
+    let count = usize::from(p.pattern.edgecount);
     let links = links_of(edges, count);
     let steps = steps_of(edges, count);
-    let starts = kind_flags(false, pattern);
-    let ends = kind_flags(true, pattern);
+    let starts = flags_by(&p.pattern, is_start);
+    let ends = flags_by(&p.pattern, is_end);
     Ground {
-        layout,
-        weighing: pattern.weighing,
+        layout: p.layout,
+        weighing: p.pattern.weighing,
         edges,
         count,
         links,
         steps,
         starts,
         ends,
-        low: usize::from(pattern.low),
+        low: usize::from(p.pattern.low),
     }
 }
 
@@ -85,8 +86,8 @@ fn gain(w: Weighing, l: Place, last: &[i32], values: &[i32], entered: bool) -> i
 }
 
 // What a tick gains in each place: in those just entered, and in those stayed in.
-pub fn view_in(p: Pattern, last: &[i32], values: &[i32]) -> View
-    ensures { result ≡ view_in p last.now values.now }
+pub fn view_in(p: &Pattern, last: &[i32], values: &[i32]) -> View
+    ensures { result ≡ view_in p.now last.now values.now }
 {
     let w = p.weighing;
     let entered = std::array::from_fn(|i| gain(w, p.places[i], last, values, true));

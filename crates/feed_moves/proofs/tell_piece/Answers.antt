@@ -25,7 +25,7 @@ tell_all-requires c =
     let is : m ≡ min a.duration _ = c.min-moved.ensures in
     let scores = c.requires.3 in
     let lengths = c.requires.4 in
-    let l : c.ground_of-g.result.layout ≡ layout a.p = ap (λ (k : Common). k.layout) c.ground_of-g.ensures in (
+    let l : c.ground_of.result.layout ≡ layout a.p = ap (λ (k : Common). k.layout) c.ground_of.ensures in (
       rw (l, c.view_in-v.ensures, c.view_in-u.ensures, c.p.view_is)
           (telling a.p sound a.values.now fine a.last.now a.first.now long whole _ _ _ (omega arith) (omega arith)),
       rw l c.requires.5,
@@ -57,11 +57,11 @@ returns c =
     let m = c.min-moved.result in
     let d = a.duration in
     let is : m ≡ min d (a.p.high + 1) = rw (← c.p.view_is, ← c.from-still.ensures) c.min-moved.ensures in
-    let g = c.ground_of-g.ensures in
+    let g = c.ground_of.ensures in
     let v = c.view_in-v.ensures in
     let u = c.view_in-u.ensures in
     let e = c.p.view_is in
-    let l : c.ground_of-g.result.layout ≡ layout a.p = ap (λ (k : Common). k.layout) g in
+    let l : c.ground_of.result.layout ≡ layout a.p = ap (λ (k : Common). k.layout) g in
     record {
       first_after = o.first_after ∙ rw (g, v, u, e) (written-to a.p sound a.values.now fine a.last.now a.first.now long whole m) ∙ table-still a.p sound a.last.now a.values.now a.first.now d m is;
       scores_after =

@@ -11,8 +11,8 @@ returns g c = λ f is.
     let a = c.args in
     let at : Place → Bool = λ l. f l.kind in
     let long : length c.from_fn.result ≡ 16 = c.from_fn.ensures.items.long in
-    let places : length a.p.places ≡ 16 = omega arith in
-    let mapped = length-map a.p.places at in
+    let places : length a.p.now.places ≡ 16 = omega arith in
+    let mapped = length-map a.p.now.places at in
     ext_get_or (at unset) _ _ (omega arith) (λ i l.
-    made-at _ (λ k. at (get_or a.p.places k unset)) _ (λ j b q k. search (is, rules)) c.from_fn.result 16 0 i (at unset) c.from_fn.ensures.items.each (omega arith) (omega arith)
-    ∙ sym (get_or-map at a.p.places i unset))
+    made-at _ (λ k. at (get_or a.p.now.places k unset)) _ (λ j b q k. search (is, rules)) c.from_fn.result 16 0 i (at unset) c.from_fn.ensures.items.each (omega arith) (omega arith)
+    ∙ sym (get_or-map at a.p.now.places i unset))

@@ -1,6 +1,7 @@
 -- `ground_of`: what a sound pattern's layout, edges, links and steps are known for.
 use mathlib.Core.Path.{◌≡◌, refl, sym, subst}
 use Rattle.pattern.specs.declared.Pattern.{Pattern}
+use Rattle.pattern.specs.Kinds.{is_start, is_end}
 use Rattle.pattern.specs.Sound.{sound_of}
 use mathlib.Core.Bool.{true}
 use Rattle.cells.specs.declared.Layout.{Layout}
@@ -43,6 +44,6 @@ invariant_of-result c =
 
 pub returns : goal.returns
 returns c =
-    let starts = c.kind_flags-starts.ensures in
-    let ends = c.kind_flags-ends.ensures in
+    let starts = c.flags_by-starts.ensures is_start (λ k r h. h.1) in
+    let ends = c.flags_by-ends.ensures is_end (λ k r h. h.1) in
     rw (starts, ends, c.from-count.ensures, c.from.ensures, c.p.invariant.1, ← c.p.view_is) refl
