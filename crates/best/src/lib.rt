@@ -105,7 +105,7 @@ fn feed_some(
     let mut lengths = [0; 64];
     let state = feed_piece(
         s.state,
-        p,
+        &p,
         first,
         flags,
         ticks,

@@ -61,7 +61,7 @@ fn feed_with(
         lengths.len(),
         flags,
     )?;
-    let later = feed_piece(s, plan, first, flags, duration, values, scores, lengths);
+    let later = feed_piece(s, &plan, first, flags, duration, values, scores, lengths);
     mark_all(plan, second);
     Ok(later)
 }

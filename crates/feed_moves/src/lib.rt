@@ -66,7 +66,7 @@ fn last_after(last: [i32; 8], values: &[i32]) -> [i32; 8]
 // stands still: the rest of the reports is the last one again.
 // The slices come one by one, as a host in C lends them.
 fn tell_piece(
-    p: Plan,
+    p: &Plan,
     last: &[i32],
     duration: u32,
     values: &[i32],
@@ -76,21 +76,21 @@ fn tell_piece(
     lengths: &mut [u32],
 )
     requires { (all value_in_range values.now ≡ true)
-        × (cells_needed p ≤ length first.old) × (all cell_fine (take (cells_needed p) first.old) ≡ true)
-        × (duration ≤ length scores.old) × (duration ≤ length lengths.old) × (Flagged (layout p) first.old flags.old) }
+        × (cells_needed p.now ≤ length first.old) × (all cell_fine (take (cells_needed p.now) first.old) ≡ true)
+        × (duration ≤ length scores.old) × (duration ≤ length lengths.old) × (Flagged (layout p.now) first.old flags.old) }
     ensures first_after { first.new
-        ≡ written p (table_in p last.now values.now first.old duration) first.old }
+        ≡ written p.now (table_in p.now last.now values.now first.old duration) first.old }
     ensures scores_after { scores.new
-        ≡ scores_in p last.now values.now first.old duration scores.old }
+        ≡ scores_in p.now last.now values.now first.old duration scores.old }
     ensures lengths_after { lengths.new
-        ≡ lengths_in p last.now values.now first.old duration lengths.old }
-    ensures flagged { Flagged (layout p) first.new flags.new }
+        ≡ lengths_in p.now last.now values.now first.old duration lengths.old }
+    ensures flagged { Flagged (layout p.now) first.new flags.new }
 {
     let v = view_in(&p.pattern, last, values);
     let u = view_in(&p.pattern, values, values);
     let still = u32::from(p.pattern.high) + 1;
     let moved = duration.min(still) as usize;
-    tell_all(first, flags, scores, lengths, moved, &ground_of(&p), &v, &u);
+    tell_all(first, flags, scores, lengths, moved, &ground_of(p), &v, &u);
     repeat_last(scores, lengths, moved, duration as usize);
 }
 
@@ -98,7 +98,7 @@ fn tell_piece(
 // The slices come one by one, as in `tell_piece`.
 pub fn feed_piece(
     s: State,
-    p: Plan,
+    p: &Plan,
     first: &mut [i64],
     flags: &mut [u32],
     duration: u32,
@@ -106,17 +106,17 @@ pub fn feed_piece(
     scores: &mut [i64],
     lengths: &mut [u32],
 ) -> State
-    requires { (feed_cause p s first.old (length first.old) duration values.now
+    requires { (feed_cause p.now s first.old (length first.old) duration values.now
         (length scores.old) (length lengths.old) ≡ none)
-        × (Flagged (layout p) first.old flags.old) }
-    ensures value { result ≡ piece_later p s duration values.now }
+        × (Flagged (layout p.now) first.old flags.old) }
+    ensures value { result ≡ piece_later p.now s duration values.now }
     ensures first_after { first.new
-        ≡ written p (table_after p s first.old values.now duration) first.old }
-    ensures scores_after { scores.new ≡ scores_in p (last_sample p s) values.now
+        ≡ written p.now (table_after p.now s first.old values.now duration) first.old }
+    ensures scores_after { scores.new ≡ scores_in p.now (last_sample p.now s) values.now
         first.old duration scores.old }
-    ensures lengths_after { lengths.new ≡ lengths_in p (last_sample p s) values.now
+    ensures lengths_after { lengths.new ≡ lengths_in p.now (last_sample p.now s) values.now
         first.old duration lengths.old }
-    ensures flagged { Flagged (layout p) first.new flags.new }
+    ensures flagged { Flagged (layout p.now) first.new flags.new }
 {
     let last = s.last;
     let used = in_use(&last, p.pattern.channels);

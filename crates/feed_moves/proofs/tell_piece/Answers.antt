@@ -17,17 +17,17 @@ use Rattle.feed_moves.proofs.tell_piece.Goals as goal
 pub tell_all-requires : goal.tell_all-requires
 tell_all-requires c =
     let a = c.args in
-    let sound : sound_of a.p ≡ true = rw (← c.p.view_is) c.p.invariant.0 in
+    let sound : sound_of a.p.now ≡ true = rw (← c.p.view_is) c.p.invariant.0 in
     let fine = c.requires.0 in
     let long = c.requires.1 in
-    let whole = fine-whole a.p sound a.first.now long c.requires.2 in
+    let whole = fine-whole a.p.now sound a.first.now long c.requires.2 in
     let m = c.min-moved.result in
     let is : m ≡ min a.duration _ = c.min-moved.ensures in
     let scores = c.requires.3 in
     let lengths = c.requires.4 in
-    let l : c.ground_of.result.layout ≡ layout a.p = ap (λ (k : Common). k.layout) c.ground_of.ensures in (
+    let l : c.ground_of.result.layout ≡ layout a.p.now = ap (λ (k : Common). k.layout) c.ground_of.ensures in (
       rw (l, c.view_in-v.ensures, c.view_in-u.ensures, c.p.view_is)
-          (telling a.p sound a.values.now fine a.last.now a.first.now long whole _ _ _ (omega arith) (omega arith)),
+          (telling a.p.now sound a.values.now fine a.last.now a.first.now long whole _ _ _ (omega arith) (omega arith)),
       rw l c.requires.5,
     )
 
@@ -48,29 +48,29 @@ repeat_last-requires c =
 pub returns : goal.returns
 returns c =
     let a = c.args in
-    let sound : sound_of a.p ≡ true = rw (← c.p.view_is) c.p.invariant.0 in
+    let sound : sound_of a.p.now ≡ true = rw (← c.p.view_is) c.p.invariant.0 in
     let fine = c.requires.0 in
     let long = c.requires.1 in
-    let whole = fine-whole a.p sound a.first.now long c.requires.2 in
+    let whole = fine-whole a.p.now sound a.first.now long c.requires.2 in
     let o = c.tell_all.ensures in
     let r = c.repeat_last.ensures in
     let m = c.min-moved.result in
     let d = a.duration in
-    let is : m ≡ min d (a.p.high + 1) = rw (← c.p.view_is, ← c.from-still.ensures) c.min-moved.ensures in
+    let is : m ≡ min d (a.p.now.high + 1) = rw (← c.p.view_is, ← c.from-still.ensures) c.min-moved.ensures in
     let g = c.ground_of.ensures in
     let v = c.view_in-v.ensures in
     let u = c.view_in-u.ensures in
     let e = c.p.view_is in
-    let l : c.ground_of.result.layout ≡ layout a.p = ap (λ (k : Common). k.layout) g in
+    let l : c.ground_of.result.layout ≡ layout a.p.now = ap (λ (k : Common). k.layout) g in
     record {
-      first_after = o.first_after ∙ rw (g, v, u, e) (written-to a.p sound a.values.now fine a.last.now a.first.now long whole m) ∙ table-still a.p sound a.last.now a.values.now a.first.now d m is;
+      first_after = o.first_after ∙ rw (g, v, u, e) (written-to a.p.now sound a.values.now fine a.last.now a.first.now long whole m) ∙ table-still a.p.now sound a.last.now a.values.now a.first.now d m is;
       scores_after =
           r.scores_after
-          ∙ ap (λ (x : List ℤ). repeated x m (d - m) (get_or x (m - 1) (pos 0))) (o.scores_after ∙ rw (g, v, u, e) (scores-told a.p sound a.values.now fine a.last.now a.first.now long whole a.scores.now m))
-          ∙ reports-still a.p sound a.last.now a.values.now a.first.now d m is score_in a.scores.now (pos 0) c.requires.3;
+          ∙ ap (λ (x : List ℤ). repeated x m (d - m) (get_or x (m - 1) (pos 0))) (o.scores_after ∙ rw (g, v, u, e) (scores-told a.p.now sound a.values.now fine a.last.now a.first.now long whole a.scores.now m))
+          ∙ reports-still a.p.now sound a.last.now a.values.now a.first.now d m is score_in a.scores.now (pos 0) c.requires.3;
       lengths_after =
           r.lengths_after
-          ∙ ap (λ (x : List ℕ). repeated x m (d - m) (get_or x (m - 1) 0)) (o.lengths_after ∙ rw (g, v, u, e) (lengths-told a.p sound a.values.now fine a.last.now a.first.now long whole a.lengths.now m))
-          ∙ reports-still a.p sound a.last.now a.values.now a.first.now d m is length_in a.lengths.now 0 c.requires.4;
+          ∙ ap (λ (x : List ℕ). repeated x m (d - m) (get_or x (m - 1) 0)) (o.lengths_after ∙ rw (g, v, u, e) (lengths-told a.p.now sound a.values.now fine a.last.now a.first.now long whole a.lengths.now m))
+          ∙ reports-still a.p.now sound a.last.now a.values.now a.first.now d m is length_in a.lengths.now 0 c.requires.4;
       flagged = rw (← l) o.flagged;
     }
