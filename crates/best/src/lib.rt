@@ -82,7 +82,7 @@ pub fn choose_all(
 // Up to 64 ticks with the same values. Of a second table only the length would count, so the first stands for it.
 // The table and its flags come apart, here and below, as in crate `table`.
 fn feed_some(
-    p: Plan,
+    p: &Plan,
     ticks: u32,
     values: &[i32],
     s: Search,
@@ -90,22 +90,22 @@ fn feed_some(
     flags: &mut [u32],
 ) -> Search
     requires { (ticks ≤ 64) × (s.state.ticks + ticks ≤ 2147483647)
-        × (feed_refusal p s.state first.old first.old (chunk_of ticks values.now) ≡ none)
-        × (Flagged (layout p) first.old flags.old) }
+        × (feed_refusal p.now s.state first.old first.old (chunk_of ticks values.now) ≡ none)
+        × (Flagged (layout p.now) first.old flags.old) }
     ensures state_value { result.state
-        ≡ feed_state p s.state first.old first.old (chunk_of ticks values.now) }
-    ensures choice_value { chosen_in result.choice ≡ chosen_past p (chosen_in s.choice) s.state.ticks
-        (feed_scores p s.state first.old first.old (chunk_of ticks values.now))
-        (feed_lengths p s.state first.old first.old (chunk_of ticks values.now)) ticks }
+        ≡ feed_state p.now s.state first.old first.old (chunk_of ticks values.now) }
+    ensures choice_value { chosen_in result.choice ≡ chosen_past p.now (chosen_in s.choice) s.state.ticks
+        (feed_scores p.now s.state first.old first.old (chunk_of ticks values.now))
+        (feed_lengths p.now s.state first.old first.old (chunk_of ticks values.now)) ticks }
     ensures first_after { first.new
-        ≡ feed_first p s.state first.old first.old (chunk_of ticks values.now) }
-    ensures flagged { Flagged (layout p) first.new flags.new }
+        ≡ feed_first p.now s.state first.old first.old (chunk_of ticks values.now) }
+    ensures flagged { Flagged (layout p.now) first.new flags.new }
 {
     let mut scores = [0; 64];
     let mut lengths = [0; 64];
     let state = feed_piece(
         s.state,
-        &p,
+        p,
         first,
         flags,
         ticks,
@@ -119,7 +119,7 @@ fn feed_some(
 
 // The first `count` ticks of a piece, in chunks. What is left decides each: steps of 64 would need the same `min`.
 fn feed_part(
-    p: Plan,
+    p: &Plan,
     lent: Record,
     piece: usize,
     count: u32,
@@ -127,14 +127,14 @@ fn feed_part(
     first: &mut [i64],
     flags: &mut [u32],
 ) -> Search
-    requires { (Fit p lent.durations.now lent.values.now piece s first.old) × (Flagged (layout p) first.old flags.old)
+    requires { (Fit p.now lent.durations.now lent.values.now piece s first.old) × (Flagged (layout p.now) first.old flags.old)
         × (piece < length lent.durations.now) × (count ≤ get_or lent.durations.now piece 0) }
-    ensures searched_to { SearchedTo p (book_in p lent.entry)
+    ensures searched_to { SearchedTo p.now (book_in p.now lent.entry)
         (total (take piece lent.entry.durations.now) + count) result }
     ensures first_after { first.new
-        ≡ written p (table_to p (book_in p lent.entry)
+        ≡ written p.now (table_to p.now (book_in p.now lent.entry)
         (total (take piece lent.entry.durations.now) + count)) first.old }
-    ensures flagged { Flagged (layout p) first.new flags.new }
+    ensures flagged { Flagged (layout p.now) first.new flags.new }
 {
     let channels = usize::from(p.pattern.channels);
     let at = piece * channels;
@@ -163,21 +163,21 @@ fn pass_rest(s: Search, rest: u32) -> Search
 
 // One piece. All its ticks but the first are alike, so after high + 1 ticks the table stands still, and the rest passes.
 fn feed_whole(
-    p: Plan,
+    p: &Plan,
     lent: Record,
     piece: usize,
     s: Search,
     first: &mut [i64],
     flags: &mut [u32],
 ) -> Search
-    requires { (Fit p lent.durations.now lent.values.now piece s first.old) × (Flagged (layout p) first.old flags.old)
+    requires { (Fit p.now lent.durations.now lent.values.now piece s first.old) × (Flagged (layout p.now) first.old flags.old)
         × (piece < length lent.durations.now) }
-    ensures searched_to { SearchedTo p (book_in p lent.entry)
+    ensures searched_to { SearchedTo p.now (book_in p.now lent.entry)
         (total (take (piece + 1) lent.entry.durations.now)) result }
     ensures first_after { first.new
-        ≡ written p (table_to p (book_in p lent.entry)
+        ≡ written p.now (table_to p.now (book_in p.now lent.entry)
         (total (take (piece + 1) lent.entry.durations.now))) first.old }
-    ensures flagged { Flagged (layout p) first.new flags.new }
+    ensures flagged { Flagged (layout p.now) first.new flags.new }
 {
     let duration = lent.durations[piece];
     let moved = duration.min(u32::from(p.pattern.high) + 1);
@@ -186,14 +186,14 @@ fn feed_whole(
 }
 
 // All pieces. By the piece's number, as the definition `Fit` has it.
-fn feed_all(p: Plan, lent: Record, s: Search, first: &mut [i64], flags: &mut [u32]) -> Search
-    requires { (Fit p lent.durations.now lent.values.now 0 s first.old) × (Flagged (layout p) first.old flags.old) }
-    ensures searched_to { SearchedTo p (book_in p lent.entry)
+fn feed_all(p: &Plan, lent: Record, s: Search, first: &mut [i64], flags: &mut [u32]) -> Search
+    requires { (Fit p.now lent.durations.now lent.values.now 0 s first.old) × (Flagged (layout p.now) first.old flags.old) }
+    ensures searched_to { SearchedTo p.now (book_in p.now lent.entry)
         (total lent.entry.durations.now) result }
     ensures first_after { first.new
-        ≡ written p (table_to p (book_in p lent.entry)
+        ≡ written p.now (table_to p.now (book_in p.now lent.entry)
         (total lent.entry.durations.now)) first.old }
-    ensures flagged { Flagged (layout p) first.new flags.new }
+    ensures flagged { Flagged (layout p.now) first.new flags.new }
 {
     let mut search = s;
     for piece in 0..lent.durations.len() {
@@ -247,6 +247,6 @@ pub fn best(
         state,
         choice: None,
     };
-    let end = feed_all(plan, lent, start, first, &mut flags);
+    let end = feed_all(&plan, lent, start, first, &mut flags);
     Ok(told(end.choice))
 }

@@ -22,25 +22,25 @@ loop-piece-preserved c =
     let a = c.args in
     let l = c.loop-piece in
     let o = c.feed_whole-search.ensures in
-    let U = table_to a.p (book_of a.p.channels a.lent.durations.now a.lent.values.now) (total (take (l.piece + 1) a.lent.durations.now)) in (
-      fit_on a.p a.lent.durations.now a.lent.values.now l.piece (l.piece + 1) l.search c.feed_whole-search.result l.first _ l.invariant.0 o.searched_to o.first_after,
-      o.first_after ∙ ap (written a.p U) l.invariant.1 ∙ written_again a.p U _ a.first.now,
+    let U = table_to a.p.now (book_of a.p.now.channels a.lent.durations.now a.lent.values.now) (total (take (l.piece + 1) a.lent.durations.now)) in (
+      fit_on a.p.now a.lent.durations.now a.lent.values.now l.piece (l.piece + 1) l.search c.feed_whole-search.result l.first _ l.invariant.0 o.searched_to o.first_after,
+      o.first_after ∙ ap (written a.p.now U) l.invariant.1 ∙ written_again a.p.now U _ a.first.now,
       o.flagged,
     )
 
 pub shape_of-first : goal.shape_of-first
 shape_of-first c =
     let st = c in
-    ap length c.loop-piece.invariant.1 ∙ written-length st.args.p st.requires.0.sound _ st.args.first.now st.requires.0.first_long
+    ap length c.loop-piece.invariant.1 ∙ written-length st.args.p.now st.requires.0.sound _ st.args.first.now st.requires.0.first_long
 
 pub returns : goal.returns
 returns c =
     let a = c.args in
     let l = c.loop-piece in
-    let B = book_of a.p.channels a.lent.durations.now a.lent.values.now in
+    let B = book_of a.p.now.channels a.lent.durations.now a.lent.values.now in
     let e : total (take l.piece a.lent.durations.now) ≡ total a.lent.durations.now = ap total (take_all l.piece a.lent.durations.now (omega arith)) in
     record {
-      searched_to = subst (λ (n : ℕ). SearchedTo a.p B n l.search) e l.invariant.0.searched;
-      first_after = l.invariant.1 ∙ ap (λ (n : ℕ). written a.p (table_to a.p B n) a.first.now) e;
+      searched_to = subst (λ (n : ℕ). SearchedTo a.p.now B n l.search) e l.invariant.0.searched;
+      first_after = l.invariant.1 ∙ ap (λ (n : ℕ). written a.p.now (table_to a.p.now B n) a.first.now) e;
       flagged = l.invariant.2;
     }

@@ -16,7 +16,7 @@ pass_rest-requires c =
     let a = st.args in
     let m = c.min-moved.result in
     let is : m ≡ min (get_or a.lent.durations.now a.piece 0) _ = c.min-moved.ensures in
-    room-passes a.p st.requires.0.sound a.lent.durations.now a.lent.values.now a.piece st.requires.2 st.requires.0.fits m (omega arith)
+    room-passes a.p.now st.requires.0.sound a.lent.durations.now a.lent.values.now a.piece st.requires.2 st.requires.0.fits m (omega arith)
     c.feed_part-search.result c.feed_part-search.ensures.searched_to
 
 pub returns : goal.returns
@@ -25,17 +25,17 @@ returns c =
     let a = st.args in
     let d = get_or a.lent.durations.now a.piece 0 in
     let m = c.min-moved.result in
-    let is : m ≡ min d (a.p.high + 1) = rw (← c.p.view_is, ← c.from.ensures) c.min-moved.ensures in
+    let is : m ≡ min d (a.p.now.high + 1) = rw (← c.p.view_is, ← c.from.ensures) c.min-moved.ensures in
     let o = c.feed_part-search.ensures in
-    let B = book_of a.p.channels a.lent.durations.now a.lent.values.now in
+    let B = book_of a.p.now.channels a.lent.durations.now a.lent.values.now in
     let e : total (take a.piece a.lent.durations.now) + d ≡ total (take (a.piece + 1) a.lent.durations.now) = sym (total-more a.lent.durations.now a.piece st.requires.2) in
     let s = passed c.feed_part-search.result (d - m) in
-    let on = passes a.p st.requires.0.sound a.lent.durations.now a.lent.values.now a.piece st.requires.2 m is c.feed_part-search.result o.searched_to in
+    let on = passes a.p.now st.requires.0.sound a.lent.durations.now a.lent.values.now a.piece st.requires.2 m is c.feed_part-search.result o.searched_to in
     record {
-      searched_to = subst (SearchedTo a.p B (total (take (a.piece + 1) a.lent.durations.now))) (sym c.pass_rest.ensures) (subst (λ (n : ℕ). SearchedTo a.p B n s) e on);
+      searched_to = subst (SearchedTo a.p.now B (total (take (a.piece + 1) a.lent.durations.now))) (sym c.pass_rest.ensures) (subst (λ (n : ℕ). SearchedTo a.p.now B n s) e on);
       first_after =
           o.first_after
-          ∙ table-passes a.p st.requires.0.sound a.lent.durations.now a.lent.values.now a.piece st.requires.2 m is a.first.now
-          ∙ ap (λ (n : ℕ). written a.p (table_to a.p B n) a.first.now) e;
+          ∙ table-passes a.p.now st.requires.0.sound a.lent.durations.now a.lent.values.now a.piece st.requires.2 m is a.first.now
+          ∙ ap (λ (n : ℕ). written a.p.now (table_to a.p.now B n) a.first.now) e;
       flagged = o.flagged;
     }
