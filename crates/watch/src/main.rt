@@ -2,7 +2,7 @@
 // that decides is in `watch_start` and `watch_steps`; how files are read and lines written is in `files`.
 #![tactic(auto)]
 
-ghost use Rattle.std.specs.Prelude.{◌≡◌, ◌≤◌, length, IfSome};
+ghost use Rattle.std.specs.Prelude.{◌≡◌, ◌≤◌, length};
 ghost use Rattle.watch_steps.specs.Steps.{Standing};
 ghost use Rattle.watch_start.specs.Buffers.{pattern_buffer, record_buffer};
 
@@ -31,33 +31,52 @@ fn show_all(
     Ok(())
 }
 
-// The lines for both texts, which are what was read into the two buffers: no longer than these, each than its own. The sizes are
-// those that show a text to be too long (`watch_start/specs/Claims` BuffersSuffice).
-fn show(rt: &HostRuntime, pattern: &[u8], text: &[u8]) -> Result<(), Unwritten>
-    requires pattern_len { length pattern.now ≤ pattern_buffer }
-    requires text_len { length text.now ≤ record_buffer }
-{
-    let mut first: [i64; 2048] = [0; 2048];
-    let mut second: [i64; 2048] = [0; 2048];
-    let mut out = [0u8; 4096];
-    let w = start(pattern, text, &mut first, &mut second);
-    show_all(rt, text, w, &mut first, &mut second, &mut out)
+// What was read of a file into a buffer of SIZE bytes. The buffers of the two files differ in size, so that neither text is taken for the
+// other.
+#[derive(Clone, Copy)]
+struct Text<'b, const SIZE: usize> {
+    bytes: &'b [u8],
+    ghost inside: { length bytes.now ≤ SIZE },
 }
 
-// Both files are read, each into its buffer, or nothing is shown.
+// The file's bytes, as many as the buffer takes; or none, where reading it failed.
+fn read_text<'b, const SIZE: usize>(
+    rt: &HostRuntime,
+    path: &[u8],
+    buffer: &'b mut [u8],
+) -> Option<Text<'b, SIZE>>
+    requires { length buffer.old ≡ SIZE }
+{
+    let bytes = read_file(rt, path, buffer).ok()?;
+    Some(Text { bytes })
+}
+
+// Both files are read, or nothing is shown. The buffers have the sizes that show a text to be too long
+// (`watch_start/specs/Claims` BuffersSuffice).
 fn read_both<'p, 't>(
     rt: &HostRuntime,
     pattern: &'p mut [u8],
     text: &'t mut [u8],
-) -> Option<(&'p [u8], &'t [u8])>
+) -> Option<(Text<'p, 8193>, Text<'t, 16385>)>
     requires pattern_len { length pattern.old ≡ pattern_buffer }
     requires text_len { length text.old ≡ record_buffer }
-    ensures pattern_read { IfSome result (λ both. length both.0.now ≤ pattern_buffer) }
-    ensures text_read { IfSome result (λ both. length both.1.now ≤ record_buffer) }
 {
-    let pattern = read_file(rt, b"pattern.txt", pattern);
-    let text = read_file(rt, b"record.txt", text);
-    Some((pattern.ok()?, text.ok()?))
+    let pattern = read_text(rt, b"pattern.txt", pattern);
+    let text = read_text(rt, b"record.txt", text);
+    Some((pattern?, text?))
+}
+
+// The lines for both texts.
+fn show(rt: &HostRuntime, pattern: Text<8193>, text: Text<16385>) -> Result<(), Unwritten>
+    requires pattern_len { length pattern.bytes.now ≤ pattern_buffer }
+    requires text_len { length text.bytes.now ≤ record_buffer }
+{
+    let mut first: [i64; 2048] = [0; 2048];
+    let mut second: [i64; 2048] = [0; 2048];
+    let mut out = [0u8; 4096];
+    let text = text.bytes;
+    let w = start(pattern.bytes, text, &mut first, &mut second);
+    show_all(rt, text, w, &mut first, &mut second, &mut out)
 }
 
 // The status of a program that a closed pipe's signal has ended, which a shell tells as 128 and the signal's number.
